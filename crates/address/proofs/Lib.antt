@@ -1,0 +1,4 @@
+pub mod Tests
+pub mod Checked
+pub mod Rounding
+pub mod Powers

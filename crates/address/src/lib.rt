@@ -1,0 +1,117 @@
+// Addresses and sizes: two types that cannot change places, with checked sums, rounding and the power-of-two test.
+ghost use mathlib.Core.Path.{_≡_};
+ghost use Prim.Native.Nat.{ℕ, _+_, _<_, min, max};
+ghost use Rattle.address.specs.Numbers.{up as roundUp, down as roundDown, powerOfTwo, address, difference, size};
+
+// A place in memory, 0 to 2^64 - 1.
+pub struct Address(pub u64);
+
+// A number of addresses, 0 to 2^64 - 1.
+pub struct Size(pub u64);
+
+// A whole number as an address, where it is one.
+pub enum CheckedAddress {
+    At(Address),
+    Outside,
+}
+
+// A whole number as a size, where it is one.
+pub enum CheckedSize {
+    Of(Size),
+    Outside,
+}
+
+impl Address {
+    // The address `by` further on.
+    pub fn plus(self, by: Size) -> CheckedAddress
+        ensures { λ r. ⌜ r ≡ address (self .0 + by .0) ⌝ }
+    {
+        if 0xFFFF_FFFF_FFFF_FFFF - self.0 < by.0 {
+            return CheckedAddress::Outside;
+        }
+        CheckedAddress::At(Address(self.0 + by.0))
+    }
+
+    // The address `by` further back.
+    pub fn minus(self, by: Size) -> CheckedAddress
+        ensures { λ r. ⌜ r ≡ difference (self .0) (by .0) ⌝ }
+    {
+        if self.0 < by.0 {
+            return CheckedAddress::Outside;
+        }
+        CheckedAddress::At(Address(self.0 - by.0))
+    }
+
+    // The lowest multiple of `by` at or above.
+    pub fn up(self, by: Size) -> CheckedAddress
+        requires { ⌜ 0 < by .0 ⌝ }
+        ensures { λ r. ⌜ r ≡ address (roundUp (self .0) (by .0)) ⌝ }
+    {
+        let over = self.0 % by.0;
+        if over == 0 {
+            return CheckedAddress::At(self);
+        }
+        self.plus(Size(by.0 - over))
+    }
+
+    // The highest multiple of `by` at or below.
+    pub fn down(self, by: Size) -> Address
+        requires { ⌜ 0 < by .0 ⌝ }
+        ensures { λ r. ⌜ r .0 ≡ roundDown (self .0) (by .0) ⌝ }
+    {
+        Address(self.0 - self.0 % by.0)
+    }
+
+    // The higher of the two.
+    pub fn max(self, other: Address) -> Address
+        ensures { λ r. ⌜ r .0 ≡ max (self .0) (other .0) ⌝ }
+    {
+        if self.0 < other.0 { other } else { self }
+    }
+
+    // The lower of the two.
+    pub fn min(self, other: Address) -> Address
+        ensures { λ r. ⌜ r .0 ≡ min (self .0) (other .0) ⌝ }
+    {
+        if self.0 < other.0 { self } else { other }
+    }
+}
+
+impl Size {
+    // Both together.
+    pub fn plus(self, more: Size) -> CheckedSize
+        ensures { λ r. ⌜ r ≡ size (self .0 + more .0) ⌝ }
+    {
+        if 0xFFFF_FFFF_FFFF_FFFF - self.0 < more.0 {
+            return CheckedSize::Outside;
+        }
+        CheckedSize::Of(Size(self.0 + more.0))
+    }
+
+    // The least multiple of `by` that is no less.
+    pub fn up(self, by: Size) -> CheckedSize
+        requires { ⌜ 0 < by .0 ⌝ }
+        ensures { λ r. ⌜ r ≡ size (roundUp (self .0) (by .0)) ⌝ }
+    {
+        let over = self.0 % by.0;
+        if over == 0 {
+            return CheckedSize::Of(self);
+        }
+        self.plus(Size(by.0 - over))
+    }
+
+    // The greatest multiple of `by` that is no more.
+    pub fn down(self, by: Size) -> Size
+        requires { ⌜ 0 < by .0 ⌝ }
+        ensures { λ r. ⌜ r .0 ≡ roundDown (self .0) (by .0) ⌝ }
+    {
+        Size(self.0 - self.0 % by.0)
+    }
+
+    // Whether an alignment of this many bytes is a power of two.
+    pub fn power_of_two(self) -> bool
+        ensures { λ r. ⌜ r ≡ powerOfTwo (self .0) ⌝ }
+    {
+        u64::count_ones(self.0) == 1
+    }
+}

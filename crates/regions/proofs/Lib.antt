@@ -1,0 +1,14 @@
+pub mod Numbers
+pub mod Records
+pub mod Push
+pub mod Rises
+pub mod Fitting
+pub mod Count
+pub mod RoundTrip
+pub mod Good
+pub mod Prefix
+pub mod Twins
+pub mod Update
+pub mod Trim
+pub mod Free
+pub mod Fewest

@@ -1,0 +1,6 @@
+pub mod Meaning
+pub mod Lists
+pub mod Changes
+pub mod Trim
+pub mod Free
+pub mod Bytes

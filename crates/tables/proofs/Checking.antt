@@ -1,0 +1,166 @@
+-- The walk over a table's records that checks and sums them, step by step. Assumes nothing.
+use Prim.Native.Nat.{ℕ, zero, suc, _+_, _*_, _-_, _/_, _^_, _≤_, _<_}
+use mathlib.Core.Path.{_≡_, refl, sym, ap, _∙_}
+use mathlib.Core.Bool.{Bool, true, false, not, cond, _&&_, and-false}
+use mathlib.Core.List.{List, [], _∷_}
+use native.Mathlib.Omega.{arith}
+use native.Mathlib.Nat.{sub-zero, mul-zero}
+use lib.Dec.{leb, ltb, eqb}
+use lib.ListN.{length, drop}
+use borrow.Author.Tests.{le-leb, lt-leb, not-true, not-false}
+use Rattle.address.specs.declared.Address.{Address}
+use Rattle.address.specs.declared.Size.{Size}
+use Rattle.address.specs.declared.CheckedAddress.the-variants as Address
+use Rattle.address.specs.declared.CheckedSize.the-variants as Size
+use Rattle.address.specs.Numbers.{address, size, ifSmall}
+use Rattle.address.proofs.Tests.{both, clash}
+use Rattle.address.specs.declared.CheckedAddress.{CheckedAddress}
+use Rattle.address.specs.declared.CheckedSize.{CheckedSize}
+use Rattle.address.proofs.Checked.{address-at, address-outside, size-of, size-outside}
+use Rattle.regions.specs.declared.Tag.{Tag}
+use Rattle.regions.specs.declared.Region.{Region}
+use Rattle.regions.specs.declared.Kind.{Kind}
+use Rattle.regions.specs.declared.State.{State}
+use Rattle.regions.specs.declared.State.the-variants.{Absent, Present}
+use Rattle.regions.specs.Meaning.{end, at, total, top, top-is}
+use Rattle.regions.specs.Lists.{fits, rises, legal, legalTag, goodList}
+use Rattle.regions.specs.Bytes.{readRegion, readRegions}
+use Rattle.regions.proofs.Rises.{Fits, fits-Fits}
+use Rattle.regions.proofs.Count.{sizes}
+use Rattle.regions.proofs.Good.{good-rises, total-is-sizes, rises-past}
+use Rattle.regions.proofs.Records.{read-regions-rest, read-regions-end}
+use Rattle.tables.specs.Checks.{zeros, checkedList, goodPart, checkedTable}
+use Rattle.tables.specs.declared.table.Checked.{Checked}
+use Rattle.tables.specs.declared.table.Checked.the-variants.{Total, Bad}
+
+-- of the list xs the records before rest are checked: they end at low, the address below has the state below, and their sizes make sum
+pub record Along (k : Kind) (xs rest : List Region) (low : ℕ) (below : State) (sum : ℕ) : Type 0 where
+  pub test : goodList k xs ≡ (rises low below top rest && legal k rest)
+  pub sizes : sizes xs ≡ sum + sizes rest
+  pub small : sum ≤ low
+  pub high : low ≤ top
+
+module _ (k : Kind) (xs : List Region) where
+  pub along-start : Along k xs xs 0 Absent 0
+  unfolding goodList
+  along-start = record { test = refl; sizes = omega arith; small = omega arith; high = omega arith }
+
+  fails : (x : Bool) → goodList k xs ≡ x → x ≡ false → Bad ≡ checkedList k xs
+  unfolding checkedList
+  fails x e f = rw (e, f)
+
+  module _ (rest : List Region) (low : ℕ) (below : State) (sum : ℕ) (a : Along k xs rest low below sum) where
+    pub along-done : (s : Size) → rest ≡ [] → s .0 ≡ sum → Total s ≡ checkedList k xs
+    unfolding checkedList rises legal sizes
+    along-done s e f =
+        let g : goodList k xs ≡ true = a .test ∙ rw (e, le-leb low top (a .high)) in
+        let t : s .0 ≡ total (at xs) top = f ∙ sym (total-is-sizes xs (good-rises k xs g) ∙ a .sizes ∙ rw e (omega arith)) in
+        rw g (ap Total (λ i. record { 0 = t i }))
+
+    module _ (r : Region) (rs : List Region) (e : rest ≡ r ∷ rs) where
+      parts : goodList k xs ≡ ((fits low below r && rises (end r) (Present (r .tag)) top rs) && (legalTag k (r .tag) && legal k rs))
+      unfolding rises legal
+      parts = a .test ∙ rw e
+
+      pub along-tag : (b : Bool) → b ≡ legalTag k (r .tag) → not b ≡ true → Bad ≡ checkedList k xs
+      along-tag b q t = fails _ parts (rw (← q, not-true b t, and-false))
+
+      pub along-fit : (b : Bool) → b ≡ fits low below r → not b ≡ true → Bad ≡ checkedList k xs
+      along-fit b q t = fails _ parts (rw (← q, not-true b t))
+
+      pub along-end : 2 ^ 64 ≤ end r → Bad ≡ checkedList k xs
+      along-end h = fails _ parts (rw (rises-past (end r) (Present (r .tag)) top rs (omega (arith, top-is)), and-false))
+
+      module _ (b : Bool) (q : b ≡ fits low below r) (t : not b ≡ false) where
+        fit : Fits low below r
+        fit = fits-Fits low below r (sym q ∙ not-false b t)
+
+        -- the sum of the sizes never passes the end
+        pub along-sum : end r < 2 ^ 64 → sum + r .size .0 < 2 ^ 64
+        along-sum h = omega (arith, fit .low, a .small)
+
+        pub along-next : (d : Bool) → d ≡ legalTag k (r .tag) → not d ≡ false → end r < 2 ^ 64 → Along k xs rs (end r) (Present (r .tag)) (sum + r .size .0)
+        unfolding sizes
+        along-next d p u h =
+            record {
+              test = parts ∙ rw (← q, not-false b t, ← p, not-false d u);
+              sizes = a .sizes ∙ rw e (omega arith);
+              small = omega (arith, fit .low, a .small);
+              high = omega (arith, top-is);
+            }
+
+-- ---- the same over a table's bytes, at record i of n
+
+module _ (k : Kind) (l : List ℕ) (n : ℕ) where
+  pub records-start : Along k (readRegions n l) (readRegions (n - 0) (drop (24 * 0) l)) 0 Absent 0
+  records-start = rw sub-zero (along-start k (readRegions n l))
+
+  module _ (i : ℕ) (low : Address) (below : State) (sum : Size)
+      (a : Along k (readRegions n l) (readRegions (n - i) (drop (24 * i) l)) (low .0) below (sum .0)) where
+    pub records-done : n ≤ i → Total sum ≡ checkedList k (readRegions n l)
+    records-done h = along-done k (readRegions n l) _ (low .0) below (sum .0) a sum (read-regions-end i n (drop (24 * i) l) h) refl
+
+    module _ (r : Region) (h : i < n) (e : r ≡ readRegion (drop (24 * i) l)) where
+      rest : readRegions (n - i) (drop (24 * i) l) ≡ r ∷ readRegions (n - (i + 1)) (drop (24 * (i + 1)) l)
+      rest = rw e (read-regions-rest i n l h)
+
+      pub records-tag : (b : Bool) → b ≡ legalTag k (r .tag) → not b ≡ true → Bad ≡ checkedList k (readRegions n l)
+      records-tag = along-tag k (readRegions n l) _ (low .0) below (sum .0) a r _ rest
+
+      pub records-fit : (b : Bool) → b ≡ fits (low .0) below r → not b ≡ true → Bad ≡ checkedList k (readRegions n l)
+      records-fit = along-fit k (readRegions n l) _ (low .0) below (sum .0) a r _ rest
+
+      pub records-end : (x : CheckedAddress) → x ≡ address (end r) → x ≡ Address.Outside → Bad ≡ checkedList k (readRegions n l)
+      records-end x q f = along-end k (readRegions n l) _ (low .0) below (sum .0) a r _ rest (address-outside (end r) x q f)
+
+      module _ (b : Bool) (q : b ≡ fits (low .0) below r) (t : not b ≡ false) (x : CheckedAddress) (o : Address) (p : x ≡ address (end r)) (f : x ≡ Address.At o)
+          (y : CheckedSize) (u : y ≡ size (sum .0 + r .size .0)) where
+        pub records-sum : y ≡ Size.Outside → Bad ≡ checkedList k (readRegions n l)
+        records-sum g =
+            let s = along-sum k (readRegions n l) _ (low .0) below (sum .0) a r _ rest b q t (address-at (end r) x o p f .1) in
+            absurd (omega (arith, size-outside (sum .0 + r .size .0) y u g))
+
+        pub records-next : (d : Bool) → d ≡ legalTag k (r .tag) → not d ≡ false → (s : Size) → y ≡ Size.Of s
+            → Along k (readRegions n l) (readRegions (n - (i + 1)) (drop (24 * (i + 1)) l)) (o .0) (Present (r .tag)) (s .0)
+        records-next d v w s g =
+            let m = address-at (end r) x o p f in
+            rw (m .0, size-of (sum .0 + r .size .0) y s u g .0)
+            (along-next k (readRegions n l) _ (low .0) below (sum .0) a r _ rest b q t d v w (m .1))
+
+-- ---- the whole part
+
+module _ (k : Kind) (n : ℕ) (l : List ℕ) where
+  pub table-long : length l / 24 < n → Bad ≡ checkedTable k n l
+  unfolding checkedTable goodPart
+  table-long h = rw (lt-leb n (length l / 24) h)
+
+  module _ (x : Checked) (e : x ≡ checkedList k (readRegions n l)) where
+    list-bad : x ≡ Bad → goodList k (readRegions n l) ≡ false
+    unfolding checkedList
+    list-bad f = go (goodList k (readRegions n l)) e
+      where
+        go : (b : Bool) → x ≡ cond b (Total (record { 0 = total (at (readRegions n l)) top })) Bad → b ≡ false
+        go true g = absurd (let z : _≡_ {A = ℕ} 0 1 = cc in omega arith)
+        go false g = refl
+
+    list-good : (s : Size) → x ≡ Total s → (goodList k (readRegions n l) ≡ true) × (s ≡ record { 0 = total (at (readRegions n l)) top })
+    unfolding checkedList
+    list-good s f = go (goodList k (readRegions n l)) e
+      where
+        go : (b : Bool) → x ≡ cond b (Total (record { 0 = total (at (readRegions n l)) top })) Bad → (b ≡ true) × (s ≡ record { 0 = total (at (readRegions n l)) top })
+        go true g = (refl, cc)
+        go false g = absurd (let z : _≡_ {A = ℕ} 0 1 = cc in omega arith)
+
+    pub table-bad : x ≡ Bad → Bad ≡ checkedTable k n l
+    unfolding checkedTable goodPart
+    table-bad f = rw (list-bad f, and-false)
+
+    pub table-tail : (b : Bool) → b ≡ zeros (drop (24 * n) l) → not b ≡ true → Bad ≡ checkedTable k n l
+    unfolding checkedTable goodPart
+    table-tail b q t = rw (← q, not-true b t, and-false, and-false)
+
+    pub table-done : (s : Size) → x ≡ Total s → n ≤ length l / 24 → (b : Bool) → b ≡ zeros (drop (24 * n) l) → not b ≡ false → Total s ≡ checkedTable k n l
+    unfolding checkedTable goodPart
+    table-done s f h b q t =
+        let g = list-good s f in
+        rw (le-leb n (length l / 24) h, g .0, ← q, not-false b t) (ap Total (g .1))

@@ -1,0 +1,5 @@
+pub mod Zeros
+pub mod Same
+pub mod Checking
+pub mod Header
+pub mod Blocks

@@ -1,0 +1,3 @@
+// The block that boot code lends: two tables of regions under a header, and the commands on them.
+pub mod block;
+pub mod table;

@@ -1,0 +1,99 @@
+// A table as a lent part of the block: records first, then zeros.
+use address::Address;
+use address::CheckedAddress;
+use address::CheckedSize;
+use address::Size;
+use regions::Kind;
+use regions::State;
+use regions::bytes::get_region;
+use regions::bytes::get_u64;
+ghost use mathlib.Core.Path.{_≡_};
+ghost use Prim.Native.Nat.{_+_, _*_, _<_, _≤_};
+ghost use lib.ListN.{length, drop};
+ghost use Rattle.regions.specs.Bytes.{readRegions};
+ghost use Rattle.tables.specs.Checks.{zeros, checkedList, checkedTable};
+
+// What the check of a table answers: its total, or that it is not good.
+pub enum Checked {
+    Total(Size),
+    Bad,
+}
+
+// Checks the first `count` records: each legal, each fitting after the one before.
+pub fn check_records(t: &[u8], count: usize, kind: Kind) -> Checked
+    requires { ⌜ 24 * count ≤ length (now t) ⌝ }
+    ensures { λ r. ⌜ r ≡ checkedList kind (readRegions count (now (t .entry))) ⌝ }
+{
+    let mut total = Size(0);
+    let mut low = Address(0);
+    let mut below = State::Absent;
+    let mut i = 0;
+    while i < count {
+        let r = get_region(t, 24 * i);
+        let tag = r.tag;
+        let size = r.size;
+        if !tag.legal(kind) {
+            return Checked::Bad;
+        }
+        if !r.fits(low, below) {
+            return Checked::Bad;
+        }
+        let CheckedAddress::At(end) = r.end() else {
+            return Checked::Bad;
+        };
+        let CheckedSize::Of(sum) = total.plus(size) else {
+            return Checked::Bad;
+        };
+        total = sum;
+        low = end;
+        below = State::Present(tag);
+        i += 1;
+    }
+    Checked::Total(total)
+}
+
+// Whether every byte from `at` on is 0.
+fn rest_zero(t: &[u8], at: usize) -> bool
+    requires { ⌜ at ≤ length (now t) ⌝ }
+    ensures { λ b. ⌜ b ≡ zeros (drop at (now (t .entry))) ⌝ }
+{
+    let mut i = at;
+    while i < t.len() {
+        if t[i] != 0 {
+            return false;
+        }
+        i += 1;
+    }
+    true
+}
+
+// The same, eight bytes at a time as far as they go.
+pub fn all_zero(t: &[u8], at: usize) -> bool
+    requires { ⌜ at ≤ length (now t) ⌝ }
+    ensures { λ b. ⌜ b ≡ zeros (drop at (now (t .entry))) ⌝ }
+{
+    let mut i = at;
+    while 8 <= t.len() - i {
+        if get_u64(t, i) != 0 {
+            return false;
+        }
+        i += 8;
+    }
+    rest_zero(t, i)
+}
+
+// Checks a whole table: `count` records, and zeros behind them.
+pub fn check_table(t: &[u8], count: usize, kind: Kind) -> Checked
+    ensures { λ r. ⌜ r ≡ checkedTable kind count (now (t .entry)) ⌝ }
+{
+    if t.len() / 24 < count {
+        return Checked::Bad;
+    }
+    let Checked::Total(total) = check_records(t, count, kind) else {
+        return Checked::Bad;
+    };
+    if !all_zero(t, 24 * count) {
+        return Checked::Bad;
+    }
+    Checked::Total(total)
+}

@@ -8,7 +8,7 @@ use native.Mathlib.Nat.{pow-suc, div-add-mod'}
 use lib.Dec.{eqb, lit<}
 use lib.Count.{ones, ones-step, ones-le}
 use borrow.Author.Tests.{eq-eqb, ne-eqb, eqb-true, eqb-false}
-use Rattle.address.specs.Numbers.{powerBelow, powerOfTwo}
+use Rattle.address.specs.Numbers.{powerBelow}
 use Rattle.address.proofs.Tests.{le-or-lt}
 
 same : (a b c d : ℕ) → (a ≡ b → c ≡ d) → (c ≡ d → a ≡ b) → eqb a b ≡ eqb c d

@@ -1,12 +1,11 @@
 -- Trim at one address is trim by records: each record rounded, and the list stays a shortest one that is no longer. Assumes nothing.
-use Prim.Native.Nat.{ℕ, zero, suc, _+_, _-_, _%_, _≤_, _<_}
+use Prim.Native.Nat.{ℕ, zero, suc, _+_, _-_, _≤_, _<_}
 use mathlib.Core.Path.{_≡_, refl, sym, ap, _∙_}
-use mathlib.Core.Bool.{Bool, true, false, cond, _&&_}
+use mathlib.Core.Bool.{Bool, true, false, cond}
 use mathlib.Core.List.{List, [], _∷_}
 use mathlib.Core.Logic.{_⊎_, inl, inr}
 use native.Mathlib.Omega.{arith}
-use native.Mathlib.Nat.{not-suc-le-zero}
-use lib.Dec.{leb, ltb}
+use lib.Dec.{ltb}
 use lib.ListN.{length}
 use borrow.Author.Tests.{ltb-true, ltb-false, lt-ltb, le-ltb, le-leb, lt-leb}
 use Rattle.address.specs.Numbers.{up, down}
@@ -16,12 +15,12 @@ use Rattle.regions.specs.declared.Tag.{Tag}
 use Rattle.regions.specs.declared.Region.{Region}
 use Rattle.regions.specs.declared.State.{State}
 use Rattle.regions.specs.declared.State.the-variants.{Absent, Present}
-use Rattle.regions.specs.Meaning.{Meaning, top, region, end, inside, at, shortest}
+use Rattle.regions.specs.Meaning.{Meaning, top, region, end, inside, at}
 use Rattle.regions.specs.Trim.{sameState, throughout, trimmed, roundEach, trimmedList}
 use Rattle.regions.proofs.Push.{same-true, same-self}
 use Rattle.regions.proofs.Rises.{Fits, Rises, done, next, Canonical}
 use Rattle.regions.proofs.Count.{agree}
-use Rattle.regions.proofs.RoundTrip.{rises-end, rises-below, inside-below, inside-past, at-here, at-before, at-past, round-trip}
+use Rattle.regions.proofs.RoundTrip.{rises-below, inside-below, inside-past, at-here, at-before, at-past, round-trip}
 
 -- ---- a stretch of one state
 
@@ -68,7 +67,7 @@ lower {c} {v = v} b u (next {r = r} f w) h e =
     next g w
 
 -- what follows a region at its end has not its tag there
-rises-apart : {c n : ℕ} {t : Tag} {xs : List Region} → Rises c (Present t) n xs → at xs c ≡ Present t → ⊥
+pub rises-apart : {c n : ℕ} {t : Tag} {xs : List Region} → Rises c (Present t) n xs → at xs c ≡ Present t → ⊥
 unfolding at
 rises-apart (done l) e = let z : _≡_ {A = ℕ} 0 1 = cc in omega arith
 rises-apart {c} {t = t} (next {r = r} {rs = rs} f w) e = go (le-or-lt (r .base .0) c)

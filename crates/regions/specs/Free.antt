@@ -1,5 +1,4 @@
 -- Free memory and its runs. Assumes nothing.
-use Prim.Native.Nat.{ℕ}
 use mathlib.Core.Bool.{cond}
 use mathlib.Core.List.{List}
 use Rattle.regions.specs.declared.Region.{Region}

@@ -1,14 +1,13 @@
 -- A good block by its parts: the checks that the code makes are exactly the definition. Assumes nothing.
-use Prim.Native.Nat.{ℕ, zero, suc, _+_, _*_, _-_, _/_, _^_, _≤_, _<_}
-use mathlib.Core.Path.{_≡_, refl, sym, ap, ap₂, _∙_}
-use mathlib.Core.Bool.{Bool, true, false, not, cond, _&&_, and-false}
-use mathlib.Core.List.{List, [], _∷_, _++_, append-assoc, append-nil}
+use Prim.Native.Nat.{ℕ, _+_, _*_, _-_, _/_, _≤_, _<_}
+use mathlib.Core.Path.{_≡_, refl, sym, ap, _∙_}
+use mathlib.Core.Bool.{Bool, true, false, cond, _&&_}
+use mathlib.Core.List.{List, _++_}
 use native.Mathlib.Omega.{arith}
-use native.Mathlib.Nat.{div-mul-le-self}
-use lib.Dec.{leb, eqb}
+use lib.Dec.{leb}
 use lib.ListN.{length, take, drop, replicate, length-append, length-drop, length-replicate, take-append-drop}
 use lib.Seq.{take-at, drop-at, length-take-le, take-all, drop-drop}
-use borrow.Author.Tests.{leb-true, le-leb, lt-leb, eq-eqb}
+use borrow.Author.Tests.{leb-true, le-leb}
 use Rattle.address.proofs.Tests.{both, and, no, clash}
 use Rattle.address.specs.declared.Size.{Size}
 use Rattle.regions.specs.declared.Kind.{Kind}
@@ -16,7 +15,7 @@ use Rattle.regions.specs.declared.Kind.the-variants.{Memory, Taken}
 use Rattle.regions.specs.declared.Region.{Region}
 use Rattle.regions.specs.Meaning.{at, total, top}
 use Rattle.regions.specs.Lists.{goodList}
-use Rattle.regions.specs.Bytes.{number, bytes, readRegions, regionsBytes, tableBytes}
+use Rattle.regions.specs.Bytes.{readRegions, regionsBytes, tableBytes}
 use Rattle.regions.proofs.Numbers.{Bytes, bytes-drop, bytes-take}
 use Rattle.regions.proofs.Records.{regions-bytes-read, regions-bytes-length, read-regions-length}
 use Rattle.tables.specs.declared.block.Layout.{Layout}

@@ -1,23 +1,18 @@
 -- The walk over a table's records that checks and sums them, step by step. Assumes nothing.
-use Prim.Native.Nat.{ℕ, zero, suc, _+_, _*_, _-_, _/_, _^_, _≤_, _<_}
+use Prim.Native.Nat.{ℕ, _+_, _*_, _-_, _/_, _^_, _≤_, _<_}
 use mathlib.Core.Path.{_≡_, refl, sym, ap, _∙_}
 use mathlib.Core.Bool.{Bool, true, false, not, cond, _&&_, and-false}
 use mathlib.Core.List.{List, [], _∷_}
 use native.Mathlib.Omega.{arith}
-use native.Mathlib.Nat.{sub-zero, mul-zero}
-use lib.Dec.{leb, ltb, eqb}
+use native.Mathlib.Nat.{sub-zero}
 use lib.ListN.{length, drop}
 use borrow.Author.Tests.{le-leb, lt-leb, not-true, not-false}
 use Rattle.address.specs.declared.Address.{Address}
 use Rattle.address.specs.declared.Size.{Size}
-use Rattle.address.specs.declared.CheckedAddress.the-variants as Address
-use Rattle.address.specs.declared.CheckedSize.the-variants as Size
-use Rattle.address.specs.Numbers.{address, size, ifSmall}
-use Rattle.address.proofs.Tests.{both, clash}
+use Rattle.address.specs.Numbers.{address, size}
 use Rattle.address.specs.declared.CheckedAddress.{CheckedAddress}
 use Rattle.address.specs.declared.CheckedSize.{CheckedSize}
 use Rattle.address.proofs.Checked.{address-at, address-outside, size-of, size-outside}
-use Rattle.regions.specs.declared.Tag.{Tag}
 use Rattle.regions.specs.declared.Region.{Region}
 use Rattle.regions.specs.declared.Kind.{Kind}
 use Rattle.regions.specs.declared.State.{State}
@@ -32,6 +27,8 @@ use Rattle.regions.proofs.Records.{read-regions-rest, read-regions-end}
 use Rattle.tables.specs.Checks.{zeros, checkedList, goodPart, checkedTable}
 use Rattle.tables.specs.declared.table.Checked.{Checked}
 use Rattle.tables.specs.declared.table.Checked.the-variants.{Total, Bad}
+use Rattle.address.specs.declared.CheckedAddress.the-variants as Address
+use Rattle.address.specs.declared.CheckedSize.the-variants as Size
 
 -- of the list xs the records before rest are checked: they end at low, the address below has the state below, and their sizes make sum
 pub record Along (k : Kind) (xs rest : List Region) (low : ℕ) (below : State) (sum : ℕ) : Type 0 where

@@ -1,14 +1,12 @@
 -- The header's bytes, written field by field. Assumes nothing.
-use Prim.Native.Nat.{ℕ, _+_, _*_, _-_, _^_, _≤_, _<_}
-use mathlib.Core.Path.{_≡_, refl, sym, ap, ap₂, _∙_}
-use mathlib.Core.List.{List, [], _∷_, _++_, append-assoc}
-use native.Mathlib.Omega.{arith}
+use Prim.Native.Nat.{ℕ, _+_, _*_}
+use mathlib.Core.Path.{_≡_, sym, ap, _∙_}
+use mathlib.Core.List.{List}
 use native.Mathlib.Nat.{add-assoc}
-use lib.ListN.{length, take, drop, length-append}
-use lib.Seq.{sets, drop-at, drop-drop}
-use Rattle.regions.specs.declared.Kind.the-variants.{Memory, Taken}
-use Rattle.regions.specs.Bytes.{number, bytes}
-use Rattle.regions.proofs.Numbers.{bytes-length, sets-append, number-bytes}
+use lib.ListN.{length, take, length-append}
+use lib.Seq.{sets}
+use Rattle.regions.specs.Bytes.{bytes}
+use Rattle.regions.proofs.Numbers.{bytes-length, sets-append}
 use Rattle.tables.specs.declared.block.Layout.{Layout}
 use Rattle.tables.specs.declared.block.Header.{Header}
 use Rattle.tables.specs.Block.{capacity, offset, entryBytes, entriesBytes, settingsBytes, totalsBytes, headerBytes, readHeader, sameBytes}

@@ -1,17 +1,17 @@
 -- Equal bytes, compared one at a time and as many as make a number. Assumes nothing.
-use Prim.Native.Nat.{ℕ, zero, suc, _+_, _*_, _-_, _≤_, _<_}
-use mathlib.Core.Path.{_≡_, refl, sym, ap, ap₂, _∙_}
-use mathlib.Core.Bool.{Bool, true, false, not, _&&_}
-use mathlib.Core.List.{List, [], _∷_, _++_, append-nil}
+use Prim.Native.Nat.{ℕ, zero, suc, _+_, _*_, _≤_, _<_}
+use mathlib.Core.Path.{_≡_, refl, sym, ap₂, _∙_}
+use mathlib.Core.Bool.{Bool, true, false, _&&_}
+use mathlib.Core.List.{List, [], _∷_, append-nil}
 use native.Mathlib.Omega.{arith}
 use native.Mathlib.Nat.{le-of-suc-le-suc, not-suc-le-zero}
 use lib.Dec.{eqb}
-use lib.ListN.{length, take, drop, length-drop, drop-of-length-le}
+use lib.ListN.{length, drop, length-drop, drop-of-length-le}
 use lib.Seq.{sets, sets-eq, drop-drop}
 use borrow.Author.Tests.{eq-eqb, ne-eqb, eqb-true, eqb-false}
-use Rattle.address.proofs.Tests.{both, and, no}
+use Rattle.address.proofs.Tests.{both, and}
 use Rattle.regions.specs.Bytes.{number}
-use Rattle.regions.proofs.Numbers.{Bytes, none, one, bytes-drop}
+use Rattle.regions.proofs.Numbers.{Bytes, one, bytes-drop}
 use Rattle.tables.specs.Block.{sameBytes}
 
 pub same-self : (x : List ℕ) → sameBytes x x ≡ true

@@ -1,14 +1,14 @@
 -- Zero bytes, one at a time and as many as make a number. Assumes nothing.
 use Prim.Native.Nat.{ℕ, zero, suc, _+_, _*_, _-_, _≤_, _<_}
 use mathlib.Core.Path.{_≡_, refl, sym, ap, ap₂, _∙_}
-use mathlib.Core.Bool.{Bool, true, false, not, _&&_}
-use mathlib.Core.List.{List, [], _∷_}
+use mathlib.Core.Bool.{Bool, true, false, _&&_}
+use mathlib.Core.List.{List, [], _∷_, _++_, append-assoc, append-nil}
 use native.Mathlib.Omega.{arith}
 use native.Mathlib.Nat.{le-of-suc-le-suc, not-suc-le-zero}
 use native.Mathlib.Numerals.{add-one}
 use lib.Dec.{eqb}
-use lib.ListN.{length, drop, getD, replicate, length-drop, drop-of-length-le}
-use lib.Seq.{drop-cons, drop-drop}
+use lib.ListN.{length, take, drop, getD, set, replicate, length-append, length-drop, length-replicate, replicate-append-replicate, take-append-drop, drop-of-length-le}
+use lib.Seq.{drop-cons, drop-drop, length-take-le, set-at}
 use borrow.Author.Tests.{eq-eqb, ne-eqb, eqb-true, eqb-false}
 use Rattle.address.proofs.Tests.{both}
 use Rattle.regions.specs.Bytes.{number}
@@ -78,3 +78,27 @@ pub replicate-zeros : (n : ℕ) → zeros (replicate n 0) ≡ true
 unfolding zeros
 replicate-zeros zero = refl
 replicate-zeros (suc n) = replicate-zeros n
+
+-- ---- zeros written from a place on: the list as it was before that place, zeros up to i, and the rest as it was
+
+module _ (t l : List ℕ) (at i : ℕ) (inv : t ≡ take at l ++ (replicate (i - at) 0 ++ drop i l)) (low : at ≤ i) where
+  pub zero-more : i < length l → set t i 0 ≡ take at l ++ (replicate (i + 1 - at) 0 ++ drop (i + 1) l)
+  zero-more h =
+      let k : ℕ = i - at in
+      let p : List ℕ = take at l ++ replicate k 0 in
+      let n : length p ≡ i =
+      length-append (take at l) (replicate k 0) ∙ omega (arith, length-take-le at l (omega arith), length-replicate {A = ℕ} k 0) in
+      let e : t ≡ p ++ (getD l i 0 ∷ drop (suc i) l) = inv ∙ sym (append-assoc (take at l) (replicate k 0) (drop i l)) ∙ ap (λ (x : List ℕ). p ++ x) (drop-cons l i 0 h) in
+      let f : i + 1 - at ≡ k + 1 = omega arith in
+      let g : replicate {A = ℕ} (k + 1) 0 ≡ replicate k 0 ++ (0 ∷ []) = sym (replicate-append-replicate k 1 0) in
+      rw (e, set-at p (getD l i 0) (drop (suc i) l) 0 i n, f, g, add-one, append-assoc, append-assoc)
+
+  pub zero-end : i ≤ length l → length l ≤ i → t ≡ take at l ++ replicate (length l - at) 0
+  zero-end h k =
+      let e : i ≡ length l = omega arith in
+      rw (inv, drop-of-length-le l k, append-nil, e)
+
+pub zero-none : (l : List ℕ) (at : ℕ) → l ≡ take at l ++ (replicate (at - at) 0 ++ drop at l)
+zero-none l at =
+    let e : at - at ≡ 0 = omega arith in
+    rw e (sym (take-append-drop at l))

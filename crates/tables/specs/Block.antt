@@ -20,6 +20,10 @@ use Rattle.tables.specs.declared.block.Tally.{Tally}
 abbrev pub editionOne : Layout
 editionOne = record { edition = 1; memory = 128; taken = 128 }
 
+-- the layout that the commands work on
+abbrev pub current : Layout
+current = editionOne
+
 unfoldable pub capacity : Layout → Kind → ℕ
 capacity L Memory = L .memory
 capacity L Taken = L .taken

@@ -12,7 +12,7 @@ ghost use mathlib.Core.Path.{_≡_};
 ghost use Prim.Native.Nat.{_+_, _*_, _<_, _≤_};
 ghost use lib.ListN.{length, take, drop};
 ghost use lib.Seq.{sets};
-ghost use Rattle.tables.specs.Block.{editionOne, entryBytes, entriesBytes, settingsBytes, totalsBytes, headerBytes, readHeader, sameBytes, good};
+ghost use Rattle.tables.specs.Block.{current, entryBytes, entriesBytes, settingsBytes, totalsBytes, headerBytes, readHeader, sameBytes, good};
 ghost use Rattle.tables.specs.Checks.{Small, withTotals};
 
 // Which edition, and how many records each table has room for.
@@ -36,9 +36,9 @@ pub struct Header {
     pub direction: u32,
 }
 
-// The layout of edition 1.
-pub fn edition_one() -> Layout
-    ensures { λ r. ⌜ r ≡ editionOne ⌝ }
+// The layout that the commands work on: edition 1.
+pub fn current_layout() -> Layout
+    ensures { λ r. ⌜ r ≡ current ⌝ }
 {
     Layout {
         edition: 1,

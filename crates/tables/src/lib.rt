@@ -1,3 +1,4 @@
 // The block that boot code lends: two tables of regions under a header, and the commands on them.
 pub mod block;
+pub mod commands;
 pub mod table;

@@ -8,8 +8,9 @@ use regions::State;
 use regions::bytes::get_region;
 use regions::bytes::get_u64;
 ghost use mathlib.Core.Path.{_≡_};
-ghost use Prim.Native.Nat.{_+_, _*_, _<_, _≤_};
-ghost use lib.ListN.{length, drop};
+ghost use mathlib.Core.List.{_++_};
+ghost use Prim.Native.Nat.{_*_, _-_, _≤_};
+ghost use lib.ListN.{length, take, drop, replicate};
 ghost use Rattle.regions.specs.Bytes.{readRegions};
 ghost use Rattle.tables.specs.Checks.{zeros, checkedList, checkedTable};
 
@@ -96,4 +97,16 @@ pub fn check_table(t: &[u8], count: usize, kind: Kind) -> Checked
         return Checked::Bad;
     }
     Checked::Total(total)
+}
+
+// Writes zeros from `at` on.
+pub fn put_zeros(t: &mut [u8], at: usize)
+    requires { ⌜ at ≤ length (now t) ⌝ }
+    ensures { λ _. ⌜ now (t .exit) ≡ take at (now (t .entry)) ++ replicate (length (now (t .entry)) - at) 0 ⌝ }
+{
+    let mut i = at;
+    while i < t.len() {
+        t[i] = 0;
+        i += 1;
+    }
 }

@@ -1,19 +1,15 @@
+-- `address::Address::down` meets its contract.
 use native.Mathlib.Nat.{mod-le}
 use borrow.Author.Needs.{needs}
 use Rattle.address.proofs.Address.down.Statement.{statement}
 use Rattle.address.proofs.Address.down.Tie as tie
-use Rattle.address.proofs.Address.down.Reads as reads
-use Rattle.address.proofs.Address.down.Lts as lts
 
--- src/lib.rt:62:26
 rem-t3 : tie.Need-rem-t3
 rem-t3 c = search needs
 
--- src/lib.rt:62:17
 sub-t4 : tie.Need-sub-t4
 sub-t4 c = search (mod-le, needs)
 
--- src/lib.rt:58:5
 returns : tie.Need-returns
 returns c = search needs
 

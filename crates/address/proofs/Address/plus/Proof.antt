@@ -1,24 +1,19 @@
+-- `address::Address::plus` meets its contract.
 use native.Mathlib.Omega.{arith}
 use Rattle.address.proofs.Checked.{small-yes, small-no}
 use borrow.Author.Needs.{needs}
 use Rattle.address.proofs.Address.plus.Statement.{statement}
 use Rattle.address.proofs.Address.plus.Tie as tie
-use Rattle.address.proofs.Address.plus.Reads as reads
-use Rattle.address.proofs.Address.plus.Lts as lts
 
--- src/lib.rt:29:12
 sub-if1 : tie.Need-sub-if1
 sub-if1 c = search needs
 
--- src/lib.rt:30:13
 returns : tie.Need-returns
 returns c = small-no _ _ _ (omega arith)
 
--- src/lib.rt:32:36
 add-t3 : tie.Need-add-t3
 add-t3 c = search needs
 
--- src/lib.rt:26:5
 returns-2 : tie.Need-returns-2
 returns-2 c = small-yes _ _ _ (omega arith)
 

@@ -1,24 +1,19 @@
+-- `address::Size::plus` meets its contract.
 use native.Mathlib.Omega.{arith}
 use Rattle.address.proofs.Checked.{small-yes, small-no}
 use borrow.Author.Needs.{needs}
 use Rattle.address.proofs.Size.plus.Statement.{statement}
 use Rattle.address.proofs.Size.plus.Tie as tie
-use Rattle.address.proofs.Size.plus.Reads as reads
-use Rattle.address.proofs.Size.plus.Lts as lts
 
--- src/lib.rt:85:12
 sub-if1 : tie.Need-sub-if1
 sub-if1 c = search needs
 
--- src/lib.rt:86:13
 returns : tie.Need-returns
 returns c = small-no _ _ _ (omega arith)
 
--- src/lib.rt:88:30
 add-t3 : tie.Need-add-t3
 add-t3 c = search needs
 
--- src/lib.rt:82:5
 returns-2 : tie.Need-returns-2
 returns-2 c = small-yes _ _ _ (omega arith)
 

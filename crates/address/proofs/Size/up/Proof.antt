@@ -1,3 +1,4 @@
+-- `address::Size::up` meets its contract.
 use native.Mathlib.Omega.{arith}
 use native.Mathlib.Nat.{mod-lt}
 use Rattle.address.proofs.Checked.{small-yes}
@@ -5,27 +6,19 @@ use Rattle.address.proofs.Rounding.{up-even, up-odd}
 use borrow.Author.Needs.{needs}
 use Rattle.address.proofs.Size.up.Statement.{statement}
 use Rattle.address.proofs.Size.up.Tie as tie
-use Rattle.address.proofs.Size.up.Reads as reads
-use Rattle.address.proofs.Size.up.Lts as lts
-use Rattle.address.proofs.Size.plus.Reads as plus-reads
 
--- src/lib.rt:96:20
 rem-over : tie.Need-rem-over
 rem-over c = search needs
 
--- src/lib.rt:98:13
 returns : tie.Need-returns
 returns c = rw (up-even _ _ (c .if1 .taken)) (small-yes _ _ _ (search needs))
 
--- src/lib.rt:100:24
 sub-t5 : tie.Need-sub-t5
 sub-t5 c = omega (arith, mod-lt (c .before .before .before .before .args .self .0) (c .before .before .before .before .pre))
 
--- src/lib.rt:100:9
 plus-requires : tie.Need-plus-requires
 plus-requires c κs = search needs
 
--- src/lib.rt:92:5
 returns-2 : tie.Need-returns-2
 returns-2 c = rw (up-odd _ _ (c .before .before .if1 .left)) (c .plus .ensures)
 

@@ -1,15 +1,12 @@
+-- `regions::Tag::same` meets its contract.
 use Rattle.regions.proofs.Fitting.{same-flags, same-node}
 use borrow.Author.Needs.{needs}
 use Rattle.regions.proofs.Tag.same.Statement.{statement}
 use Rattle.regions.proofs.Tag.same.Tie as tie
-use Rattle.regions.proofs.Tag.same.Reads as reads
-use Rattle.regions.proofs.Tag.same.Lts as lts
 
--- src/lib.rt:48:13
 returns : tie.Need-returns
 returns c = search (same-flags, needs)
 
--- src/lib.rt:44:5
 returns-2 : tie.Need-returns-2
 returns-2 c = search (same-node, needs)
 

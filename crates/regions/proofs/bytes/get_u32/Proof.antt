@@ -1,65 +1,49 @@
+-- `regions::bytes::get_u32` meets its contract.
 use Rattle.regions.proofs.Numbers.{number-four}
 use native.Mathlib.Omega.{arith}
 use borrow.Author.Needs.{needs}
 use Rattle.regions.proofs.bytes.get_u32.Statement.{statement}
 use Rattle.regions.proofs.bytes.get_u32.Tie as tie
-use Rattle.regions.proofs.bytes.get_u32.Reads as reads
-use Rattle.regions.proofs.bytes.get_u32.Lts as lts
-use Rattle.regions.proofs.bytes.byte_at.Reads as byte-at-reads
 
--- src/bytes.rt:23:9
 byte-at-requires : tie.Need-byte-at-requires
 byte-at-requires c κs = search needs
 
--- src/bytes.rt:24:24
 add-byte-at : tie.Need-add-byte-at
 add-byte-at c = search needs
 
--- src/bytes.rt:24:9
 byte-at-requires-2 : tie.Need-byte-at-requires-2
 byte-at-requires-2 c κs = search needs
 
--- src/bytes.rt:25:24
 add-byte-at-2 : tie.Need-add-byte-at-2
 add-byte-at-2 c = search needs
 
--- src/bytes.rt:25:9
 byte-at-requires-3 : tie.Need-byte-at-requires-3
 byte-at-requires-3 c κs = search needs
 
--- src/bytes.rt:26:24
 add-byte-at-3 : tie.Need-add-byte-at-3
 add-byte-at-3 c = search needs
 
--- src/bytes.rt:26:9
 byte-at-requires-4 : tie.Need-byte-at-requires-4
 byte-at-requires-4 c κs = search needs
 
--- src/bytes.rt:27:9
 mul-result : tie.Need-mul-result
 mul-result c = search needs
 
--- src/bytes.rt:27:5
 add-result : tie.Need-add-result
 add-result c = search needs
 
--- src/bytes.rt:27:19
 mul-result-2 : tie.Need-mul-result-2
 mul-result-2 c = search needs
 
--- src/bytes.rt:27:5
 add-result-2 : tie.Need-add-result-2
 add-result-2 c = search needs
 
--- src/bytes.rt:27:31
 mul-result-3 : tie.Need-mul-result-3
 mul-result-3 c = search needs
 
--- src/bytes.rt:27:5
 add-result-3 : tie.Need-add-result-3
 add-result-3 c = search needs
 
--- src/bytes.rt:19:1
 returns : tie.Need-returns
 returns c = rw number-four (omega arith)
 

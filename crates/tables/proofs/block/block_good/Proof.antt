@@ -1,3 +1,4 @@
+-- `tables::block::block_good` meets its contract.
 use Rattle.tables.specs.declared.table.Checked.the-variants.{Total, Bad}
 use mathlib.Core.Path.{_≡_}
 use native.Mathlib.Omega.{arith}
@@ -6,80 +7,58 @@ use Rattle.tables.proofs.Blocks.{bad-length, bad-direction, bad-memory,
 use borrow.Author.Needs.{needs}
 use Rattle.tables.proofs.block.block_good.Statement.{statement}
 use Rattle.tables.proofs.block.block_good.Tie as tie
-use Rattle.tables.proofs.block.block_good.Reads as reads
-use Rattle.tables.proofs.block.block_good.Lts as lts
-use Rattle.tables.proofs.block.get_header.Reads as get-header-reads
-use Rattle.tables.proofs.block.header_right.Reads as header-right-reads
-use Rattle.tables.proofs.table.check_table.Reads as check-table-reads
 
 memory-total : (c : tie.After-known-told) → c .before .before .before .check-table .result ≡ Total (c .before .memory .given .0 .0)
 memory-total c = search needs
 
--- src/block.rt:161:29
 cast-middle : tie.Need-cast-middle
 cast-middle c = search needs
 
--- src/block.rt:161:23
 mul-middle : tie.Need-mul-middle
 mul-middle c = search needs
 
--- src/block.rt:161:18
 add-middle : tie.Need-add-middle
 add-middle c = search needs
 
--- src/block.rt:162:30
 cast-end : tie.Need-cast-end
 cast-end c = search needs
 
--- src/block.rt:162:24
 mul-end : tie.Need-mul-end
 mul-end c = search needs
 
--- src/block.rt:162:15
 add-end : tie.Need-add-end
 add-end c = search needs
 
--- src/block.rt:164:9
 returns : tie.Need-returns
 returns c = bad-length _ _ _ (c .if1 .taken) (omega arith)
 
--- src/block.rt:166:9
 get-header-requires : tie.Need-get-header-requires
 get-header-requires c κs = search needs
 
--- src/block.rt:168:9
 returns-2 : tie.Need-returns-2
 returns-2 c = search (bad-direction, needs)
 
--- src/block.rt:170:46
 sub-check-table : tie.Need-sub-check-table
 sub-check-table c = search needs
 
--- src/block.rt:170:46
 part-check-table-start : tie.Need-part-check-table-start
 part-check-table-start c = search needs
 
--- src/block.rt:170:46
 part-check-table-end : tie.Need-part-check-table-end
 part-check-table-end c = search needs
 
--- src/block.rt:170:62
 cast-check-table : tie.Need-cast-check-table
 cast-check-table c = search needs
 
--- src/block.rt:170:34
 check-table-requires : tie.Need-check-table-requires
 check-table-requires c κs = search needs
 
--- src/block.rt:170:24
 enum-known-memory : tie.Need-enum-known-memory
 enum-known-memory c = search needs
 
--- src/block.rt:172:9
 enum-told : tie.Need-enum-told
 enum-told c = search needs
 
--- src/block.rt:172:9
 returns-3 : tie.Need-returns-3
 returns-3 c =
     let k = c .before .before in
@@ -87,35 +66,27 @@ returns-3 c =
     let z : k .check-table .result ≡ Bad = search needs in
     bad-memory _ _ _ h _ (k .check-table .ensures) z
 
--- src/block.rt:174:45
 sub-check-table-2 : tie.Need-sub-check-table-2
 sub-check-table-2 c = search needs
 
--- src/block.rt:174:45
 part-check-table-start-2 : tie.Need-part-check-table-start-2
 part-check-table-start-2 c = search needs
 
--- src/block.rt:174:45
 part-check-table-end-2 : tie.Need-part-check-table-end-2
 part-check-table-end-2 c = search needs
 
--- src/block.rt:174:62
 cast-check-table-2 : tie.Need-cast-check-table-2
 cast-check-table-2 c = search needs
 
--- src/block.rt:174:33
 check-table-requires-2 : tie.Need-check-table-requires-2
 check-table-requires-2 c κs = search needs
 
--- src/block.rt:174:24
 enum-known-taken : tie.Need-enum-known-taken
 enum-known-taken c = search needs
 
--- src/block.rt:176:9
 enum-told-2 : tie.Need-enum-told-2
 enum-told-2 c = search needs
 
--- src/block.rt:176:9
 returns-4 : tie.Need-returns-4
 returns-4 c =
     let k = c .before .before in
@@ -123,14 +94,12 @@ returns-4 c =
     let z : k .check-table2 .result ≡ Bad = search needs in
     bad-taken _ _ _ h _ (k .check-table2 .ensures) z
 
--- src/block.rt:178:5
 header-right-requires : tie.Need-header-right-requires
 header-right-requires c κs =
     let e = c .before .before .before .before .before .before .before .before .before .before .before .before .before .before .before in
     let l = e .if1 .left in
     (omega arith, e .before .before .before .before .pre)
 
--- src/block.rt:157:1
 returns-5 : tie.Need-returns-5
 returns-5 c =
     let k2 = c .before .before .before .before in

@@ -1,28 +1,21 @@
+-- `tables::block::put_totals` meets its contract.
 use Rattle.tables.proofs.Header.{totals-puts}
 use borrow.Author.Needs.{needs}
 use Rattle.tables.proofs.block.put_totals.Statement.{statement}
 use Rattle.tables.proofs.block.put_totals.Tie as tie
-use Rattle.tables.proofs.block.put_totals.Reads as reads
-use Rattle.tables.proofs.block.put_totals.Lts as lts
-use Rattle.regions.proofs.bytes.put_u64.Reads as put-u64-reads
 
--- src/block.rt:69:5
 put-u64-requires : tie.Need-put-u64-requires
 put-u64-requires c κs = search needs
 
--- src/block.rt:70:5
 put-u64-requires-2 : tie.Need-put-u64-requires-2
 put-u64-requires-2 c κs = search needs
 
--- src/block.rt:71:5
 put-u64-requires-3 : tie.Need-put-u64-requires-3
 put-u64-requires-3 c κs = search needs
 
--- src/block.rt:65:1
 same-length : tie.Need-same-length
 same-length c = search needs
 
--- src/block.rt:65:1
 returns : tie.Need-returns
 returns c = rw (← totals-puts) (cc)
 

@@ -1,6 +1,6 @@
-use native.Mathlib.Omega.{arith}
-use Prim.Native.Nat.{_+_, _*_, _-_, _≤_}
-use lib.ListN.{length, drop}
+-- `tables::block::same_header` meets its contract.
+use Prim.Native.Nat.{_*_, _-_, _≤_}
+use lib.ListN.{drop}
 use mathlib.Core.Path.{_≡_, refl}
 use Rattle.tables.specs.Block.{sameBytes}
 use Rattle.regions.proofs.Numbers.{Bytes, bytes-all}
@@ -8,9 +8,6 @@ use Rattle.tables.proofs.Same.{same-hit, same-again, same-end}
 use borrow.Author.Needs.{needs}
 use Rattle.tables.proofs.block.same_header.Statement.{statement}
 use Rattle.tables.proofs.block.same_header.Tie as tie
-use Rattle.tables.proofs.block.same_header.Reads as reads
-use Rattle.tables.proofs.block.same_header.Lts as lts
-use Rattle.regions.proofs.bytes.get_u64.Reads as get-u64-reads
 
 abbrev Inv-loop : tie.InvT-loop
 Inv-loop a b i₀ i =
@@ -19,40 +16,31 @@ Inv-loop a b i₀ i =
 abbrev μ-loop : tie.MeasureT-loop
 μ-loop a b i₀ i = 10 - i
 
--- src/block.rt:123:5
 loop-holds : tie.Need-loop-holds Inv-loop μ-loop
 loop-holds c =
     (search needs, (bytes-all _ (c .before .shared-slice-known .given), (bytes-all _ (c .shared-slice-known2 .given), refl)))
 
--- src/block.rt:124:23
 mul-get-u64 : tie.Need-mul-get-u64 Inv-loop μ-loop
 mul-get-u64 c = search needs
 
--- src/block.rt:124:12
 get-u64-requires : tie.Need-get-u64-requires Inv-loop μ-loop
 get-u64-requires c κs = search needs
 
--- src/block.rt:124:44
 mul-get-u64-2 : tie.Need-mul-get-u64-2 Inv-loop μ-loop
 mul-get-u64-2 c = search needs
 
--- src/block.rt:124:33
 get-u64-requires-2 : tie.Need-get-u64-requires-2 Inv-loop μ-loop
 get-u64-requires-2 c κs = search needs
 
--- src/block.rt:125:13
 returns : tie.Need-returns Inv-loop μ-loop
 returns c = search (same-hit, needs)
 
--- src/block.rt:127:9
 add-i : tie.Need-add-i Inv-loop μ-loop
 add-i c = search needs
 
--- src/block.rt:123:5
 loop-less : tie.Need-loop-less Inv-loop μ-loop
 loop-less c = search needs
 
--- src/block.rt:123:5
 loop-again : tie.Need-loop-again Inv-loop μ-loop
 loop-again c =
     let k = c .before .before .before .before in
@@ -62,7 +50,6 @@ loop-again c =
     let u = c .before .get-u642 .ensures in
     (search needs, (search needs, (search needs, same-again _ _ (v .1 .0) (v .1 .1 .0) (p .0) (p .1) _ (v .1 .1 .1) _ _ (c .before .before .before .loop-test .taken) e u (c .if1 .left))))
 
--- src/block.rt:118:1
 returns-2 : tie.Need-returns-2 Inv-loop μ-loop
 returns-2 c = search (same-end, needs)
 

@@ -1,18 +1,11 @@
-use native.Mathlib.Omega.{arith}
-use Prim.Native.Nat.{_+_, _*_, _-_, _≤_}
+-- `tables::table::check_records` meets its contract.
+use Prim.Native.Nat.{_*_, _-_, _≤_}
 use lib.ListN.{drop}
 use Rattle.regions.specs.Bytes.{readRegions}
 use Rattle.tables.proofs.Checking.{Along, records-start, records-done, records-tag, records-fit, records-end, records-sum, records-next}
 use borrow.Author.Needs.{needs}
 use Rattle.tables.proofs.table.check_records.Statement.{statement}
 use Rattle.tables.proofs.table.check_records.Tie as tie
-use Rattle.tables.proofs.table.check_records.Reads as reads
-use Rattle.tables.proofs.table.check_records.Lts as lts
-use Rattle.address.proofs.Size.plus.Reads as plus-reads
-use Rattle.regions.proofs.Region.end.Reads as end-reads
-use Rattle.regions.proofs.Region.fits.Reads as fits-reads
-use Rattle.regions.proofs.Tag.legal.Reads as legal-reads
-use Rattle.regions.proofs.bytes.get_region.Reads as get-region-reads
 
 abbrev Inv-loop : tie.InvT-loop
 Inv-loop t count kind total₀ low₀ below₀ i₀ total low below i =
@@ -21,79 +14,60 @@ Inv-loop t count kind total₀ low₀ below₀ i₀ total low below i =
 abbrev μ-loop : tie.MeasureT-loop
 μ-loop t count kind total₀ low₀ below₀ i₀ total low below i = count - i
 
--- src/table.rt:26:5
 loop-holds : tie.Need-loop-holds Inv-loop μ-loop
 loop-holds c = search (records-start, needs)
 
--- src/table.rt:27:31
 mul-get-region : tie.Need-mul-get-region Inv-loop μ-loop
 mul-get-region c = search needs
 
--- src/table.rt:27:13
 get-region-requires : tie.Need-get-region-requires Inv-loop μ-loop
 get-region-requires c κs = search needs
 
--- src/table.rt:30:13
 legal-requires : tie.Need-legal-requires Inv-loop μ-loop
 legal-requires c κs = search needs
 
--- src/table.rt:31:13
 returns : tie.Need-returns Inv-loop μ-loop
 returns c = search (records-tag, needs)
 
--- src/table.rt:33:13
 fits-requires : tie.Need-fits-requires Inv-loop μ-loop
 fits-requires c κs = search needs
 
--- src/table.rt:34:13
 returns-2 : tie.Need-returns-2 Inv-loop μ-loop
 returns-2 c = search (records-fit, needs)
 
--- src/table.rt:36:39
 end-requires : tie.Need-end-requires Inv-loop μ-loop
 end-requires c κs = search needs
 
--- src/table.rt:36:32
 enum-known-end : tie.Need-enum-known-end Inv-loop μ-loop
 enum-known-end c = search needs
 
--- src/table.rt:37:13
 enum-told : tie.Need-enum-told Inv-loop μ-loop
 enum-told c = search needs
 
--- src/table.rt:37:13
 returns-3 : tie.Need-returns-3 Inv-loop μ-loop
 returns-3 c = search (records-end, needs)
 
--- src/table.rt:39:36
 plus-requires : tie.Need-plus-requires Inv-loop μ-loop
 plus-requires c κs = search needs
 
--- src/table.rt:39:29
 enum-known-sum : tie.Need-enum-known-sum Inv-loop μ-loop
 enum-known-sum c = search needs
 
--- src/table.rt:40:13
 enum-told-2 : tie.Need-enum-told-2 Inv-loop μ-loop
 enum-told-2 c = search needs
 
--- src/table.rt:40:13
 returns-4 : tie.Need-returns-4 Inv-loop μ-loop
 returns-4 c = search (records-sum, needs)
 
--- src/table.rt:45:9
 add-i : tie.Need-add-i Inv-loop μ-loop
 add-i c = search needs
 
--- src/table.rt:26:5
 loop-less : tie.Need-loop-less Inv-loop μ-loop
 loop-less c = search needs
 
--- src/table.rt:26:5
 loop-again : tie.Need-loop-again Inv-loop μ-loop
 loop-again c = (search needs, search (records-next, needs))
 
--- src/table.rt:18:1
 returns-5 : tie.Need-returns-5 Inv-loop μ-loop
 returns-5 c = search (records-done, needs)
 

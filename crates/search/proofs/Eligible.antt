@@ -1,0 +1,121 @@
+-- Eligible addresses at the level of addresses: what lies in one free run is a stretch of free addresses of one tag. Assumes nothing.
+use Prim.Native.Nat.{ℕ, _+_, _%_, _≤_, _<_}
+use mathlib.Core.Path.{_≡_, refl, sym, ap, _∙_}
+use mathlib.Core.Bool.{Bool, true, false, _&&_, _||_}
+use mathlib.Core.List.{List, _∷_}
+use mathlib.Core.Logic.{_⊎_, inl, inr}
+use native.Mathlib.Omega.{arith}
+use lib.Dec.{leb, eqb}
+use borrow.Author.Tests.{leb-true, le-leb, eq-eqb, ne-eqb}
+use Rattle.address.proofs.Tests.{both, and, le-or-lt}
+use Rattle.regions.specs.declared.Tag.{Tag}
+use Rattle.regions.specs.declared.Region.{Region}
+use Rattle.regions.specs.declared.State.{State}
+use Rattle.regions.specs.declared.State.the-variants.{Present}
+use Rattle.regions.specs.Meaning.{Meaning, end, at, shortest, top}
+use Rattle.regions.specs.Free.{free, freeRuns}
+use Rattle.regions.proofs.Rises.{Rises, done, next}
+use Rattle.regions.proofs.RoundTrip.{rises-end, rises-below, at-here, at-before, at-past, at-shortest, canonical-shortest}
+use Rattle.regions.proofs.Trim.{rises-apart}
+use Rattle.tables.specs.Block.{Contents}
+use Rattle.search.specs.declared.Query.{Query}
+use Rattle.search.specs.Search.{asked, holds, inOne, eligible, window, runsOf, found}
+use Rattle.search.proofs.Extremes.{Gives, lowest-gives, highest-gives}
+
+-- the size addresses from a are all present with one tag, of the node asked for
+pub record OneTag (f : Meaning) (node size a : ℕ) : Type 0 where
+  pub tag : Tag
+  pub right : asked node (tag .node) ≡ true
+  pub all : (b : ℕ) → a ≤ b → b < a + size → f b ≡ Present tag
+
+or-true : (a : Bool) → a || true ≡ true
+or-true true = refl
+or-true false = refl
+
+-- where a stretch of one tag lies in a rising list, it lies in one region
+in-one : (node size a : ℕ) (t : Tag) {c n : ℕ} {v : State} {xs : List Region} → Rises c v n xs → 0 < size → asked node (t .node) ≡ true
+    → ((b : ℕ) → a ≤ b → b < a + size → at xs b ≡ Present t) → inOne node size a xs ≡ true
+unfolding inOne at
+in-one node size a t (done l) s k h = let e = h a (omega arith) (omega arith) in let z : _≡_ {A = ℕ} 0 1 = cc in absurd (omega arith)
+in-one node size a t (next {r = r} {rs = rs} f w) s k h = go (le-or-lt (r .base .0) a) (le-or-lt (end r) a) (in-one node size a t w s k)
+  where
+    here : r .base .0 ≤ a → a < end r → r .tag ≡ t
+    here l m = let e = sym (at-here r rs a l m) ∙ h a (omega arith) (omega arith) in cc
+
+    whole : r .base .0 ≤ a → a < end r → (a + size ≤ end r) ⊎ (end r < a + size) → holds node size a r ≡ true
+    whole l m (inl i) =
+        let j : asked node (r .tag .node) ≡ true = rw (here l m) k in
+        and j (and (le-leb (r .base .0) a l) (le-leb (a + size) (end r) i))
+    whole l m (inr i) =
+        absurd (rises-apart w (sym (at-past r rs (end r) (omega arith)) ∙ h (end r) (omega arith) i ∙ ap Present (sym (here l m))))
+
+    go : (r .base .0 ≤ a) ⊎ (a < r .base .0) → (end r ≤ a) ⊎ (a < end r)
+        → (((b : ℕ) → a ≤ b → b < a + size → at rs b ≡ Present t) → inOne node size a rs ≡ true) → holds node size a r || inOne node size a rs ≡ true
+    go (inl l) (inr m) ih = rw (whole l m (le-or-lt (a + size) (end r)))
+    go (inl l) (inl m) ih = rw (ih (λ b i j. sym (at-past r rs b (omega arith)) ∙ h b i j)) (or-true (holds node size a r))
+    go (inr l) m ih =
+        let e = sym (at-before r rs a l ∙ rises-below a w (omega arith)) ∙ h a (omega arith) (omega arith) in
+        let z : _≡_ {A = ℕ} 0 1 = cc in absurd (omega arith)
+
+-- and what lies in one region is a stretch of one tag, from c on and below n
+record Stretch (xs : List Region) (node size a c n : ℕ) : Type 0 where
+  low : c ≤ a
+  high : a + size ≤ n
+  same : OneTag (at xs) node size a
+
+one-in : (node size a : ℕ) {c n : ℕ} {v : State} {xs : List Region} → Rises c v n xs → inOne node size a xs ≡ true → Stretch xs node size a c n
+unfolding inOne
+one-in node size a (done l) e = let z : _≡_ {A = ℕ} 0 1 = cc in absurd (omega arith)
+one-in node size a {c} {n} {v} (next {r = r} {rs = rs} f w) e = go (holds node size a r) refl e (one-in node size a w)
+  where
+    go : (t : Bool) → holds node size a r ≡ t → t || inOne node size a rs ≡ true → (inOne node size a rs ≡ true → Stretch rs node size a (end r) n)
+        → Stretch (r ∷ rs) node size a c n
+    go true h e ih =
+        let p = both (asked node (r .tag .node)) (leb (r .base .0) a && leb (a + size) (end r)) h in
+        let q = both (leb (r .base .0) a) (leb (a + size) (end r)) (p .1) in
+        let x = leb-true (r .base .0) a (q .0) in
+        let y = leb-true (a + size) (end r) (q .1) in
+        let l = rises-end w in
+        let o : OneTag (at (r ∷ rs)) node size a = record { tag = r .tag; right = p .0; all = λ b i j. at-here r rs b (omega arith) (omega arith) } in
+        record { low = omega arith; high = omega arith; same = o }
+    go false h e ih =
+        let s = ih e in
+        let k = s .same in
+        let o : OneTag (at (r ∷ rs)) node size a = record { tag = k .tag; right = k .right; all = λ b i j. at-past r rs b (omega (arith, s .low)) ∙ k .all b i j } in
+        record { low = omega (arith, s .low); high = s .high; same = o }
+
+-- the size addresses from a lie in one run of f's shortest list exactly when f gives them all one tag, of the node asked for
+module _ (f : Meaning) (node size a : ℕ) (some : 0 < size) where
+  pub in-one-run : a + size ≤ top → OneTag f node size a → inOne node size a (shortest f top) ≡ true
+  in-one-run h o =
+      in-one node size a (o .tag) (canonical-shortest f top) some (o .right) (λ b i j. at-shortest f top b (omega arith) ∙ o .all b i j)
+
+  pub one-run-in : inOne node size a (shortest f top) ≡ true → (a + size ≤ top) × OneTag f node size a
+  one-run-in e =
+      let s = one-in node size a (canonical-shortest f top) e in
+      let k = s .same in
+      let h = s .high in
+      let o : OneTag f node size a = record { tag = k .tag; right = k .right; all = λ b i j. sym (at-shortest f top b (omega arith)) ∙ k .all b i j } in
+      (h, o)
+
+-- ---- find
+
+-- nothing past the top is eligible, so a search below the top looks at all that is
+pub eligible-below : (q : Query) (s : Contents) (a : ℕ) → 0 < q .size .0 → eligible q (runsOf s) a ≡ true → a < top
+unfolding eligible freeRuns
+eligible-below q s a h e =
+    let w : Bool = leb (q .start .0) a && leb (a + q .size .0) (q .end .0) in
+    let p = both (eqb (a % q .align .0) 0) (w && inOne (q .node) (q .size .0) a (runsOf s)) e in
+    let r = both w (inOne (q .node) (q .size .0) a (runsOf s)) (p .1) in
+    let o = one-run-in (free (at (s .memory)) (at (s .taken))) (q .node) (q .size .0) a h (r .1) in
+    omega (arith, o .0)
+
+-- bottom-up, find gives the lowest eligible address, and none exactly when there is none
+pub found-lowest : (s : Contents) (q : Query) → s .direction ≡ 1 → Gives (eligible (window (s .limit) q) (runsOf s)) (λ b a. b < a) top (found s q)
+unfolding found
+found-lowest s q e = rw (eq-eqb (s .direction) 1 e) (lowest-gives (eligible (window (s .limit) q) (runsOf s)) top)
+
+-- top-down, the highest
+pub found-highest : (s : Contents) (q : Query) → (s .direction ≡ 1 → ⊥) → Gives (eligible (window (s .limit) q) (runsOf s)) (λ b a. a < b) top (found s q)
+unfolding found
+found-highest s q e = rw (ne-eqb (s .direction) 1 e) (highest-gives (eligible (window (s .limit) q) (runsOf s)) top)

@@ -1,0 +1,79 @@
+-- What find, next free and allocate answer and leave, for all inputs: refusals in document 01's order. Assumes nothing.
+use Prim.Native.Nat.{ℕ, _+_}
+use mathlib.Core.Bool.{Bool, cond, not, _||_}
+use mathlib.Core.List.{List, _++_}
+use mathlib.Core.Option.{Option, none, some}
+use lib.Dec.{leb, eqb}
+use lib.ListN.{length, replicate}
+use Rattle.address.specs.Numbers.{powerOfTwo}
+use Rattle.regions.specs.declared.Kind.the-variants.{Taken}
+use Rattle.regions.specs.declared.Change.the-variants.{Fill}
+use Rattle.regions.specs.Bytes.{bytes}
+use Rattle.tables.specs.declared.block.Layout.{Layout}
+use Rattle.tables.specs.Block.{Contents, contents, good}
+use Rattle.tables.specs.Commands.{Outcome, tag, changeRange}
+use Rattle.search.specs.declared.Query.{Query}
+use Rattle.search.specs.Search.{found, lowestFree, runsOf, runEnd}
+
+-- the number, and every byte of the block and of the answer slip after the call
+pub record Answer : Type 0 where
+  pub number : ℕ
+  pub block : List ℕ
+  pub slip : List ℕ
+
+abbrev pub answer : ℕ → List ℕ → List ℕ → Answer
+answer n b slip = record { number = n; block = b; slip = slip }
+
+-- a refusal leaves the block as lent, and a slip of 16 bytes all zero
+abbrev pub refuse : ℕ → List ℕ → Answer
+refuse n b = answer n b (replicate 16 0)
+
+abbrev pub unless : Bool → ℕ → List ℕ → Answer → Answer
+unless test n b a = cond test a (refuse n b)
+
+-- document 01's slip: two u64
+abbrev pub slipOf : ℕ → ℕ → List ℕ
+slipOf x y = bytes 8 x ++ bytes 8 y
+
+-- a slip of another length gets 8 and stays as lent
+abbrev pub withSlip : List ℕ → List ℕ → Answer → Answer
+withSlip b slip a = cond (eqb (length slip) 16) a (answer 8 b slip)
+
+-- a node of 0 to 63, or any
+abbrev pub nodeKnown : ℕ → Bool
+nodeKnown node = leb node 63 || eqb node 4294967295
+
+-- the checks that find and allocate share, in their order
+abbrev pub asking : Layout → Query → List ℕ → List ℕ → Answer → Answer
+asking L q b slip a =
+    withSlip b slip
+    (unless (good L b) 1 b (unless (nodeKnown (q .node)) 2 b (unless (powerOfTwo (q .align .0)) 3 b (unless (not (eqb (q .size .0) 0)) 4 b a))))
+
+-- find's address and the end of its range; the block stays
+abbrev pub findAnswer : List ℕ → ℕ → Option ℕ → Answer
+findAnswer b size none = refuse 5 b
+findAnswer b size (some a) = answer 0 b (slipOf a (a + size))
+
+unfoldable pub find : Layout → Query → List ℕ → List ℕ → Answer
+find L q b slip = asking L q b slip (findAnswer b (q .size .0) (found (contents L b) q))
+
+-- what was reserved, or table full
+abbrev pub reserved : List ℕ → ℕ → ℕ → Outcome → Answer
+reserved b a size o = cond (eqb (o .number) 0) (answer 0 (o .block) (slipOf a (a + size))) (refuse (o .number) b)
+
+abbrev pub allocateAnswer : Layout → List ℕ → ℕ → Option ℕ → Answer
+allocateAnswer L b size none = refuse 5 b
+allocateAnswer L b size (some a) = reserved b a size (changeRange L Taken (Fill (tag 0 0)) a size b)
+
+unfoldable pub allocate : Layout → Query → List ℕ → List ℕ → Answer
+allocate L q b slip = asking L q b slip (allocateAnswer L b (q .size .0) (found (contents L b) q))
+
+-- next free's address and the end of its run
+abbrev pub nextFreeAnswer : List ℕ → Contents → Option ℕ → Answer
+nextFreeAnswer b s none = refuse 5 b
+nextFreeAnswer b s (some a) = answer 0 b (slipOf a (runEnd (runsOf s) a))
+
+unfoldable pub nextFree : Layout → ℕ → ℕ → List ℕ → List ℕ → Answer
+nextFree L p node b slip =
+    withSlip b slip
+    (unless (good L b) 1 b (unless (nodeKnown node) 2 b (nextFreeAnswer b (contents L b) (lowestFree (contents L b) p node))))

@@ -1,0 +1,86 @@
+-- Which addresses a search may give, and which of them it gives. Assumes nothing.
+use Prim.Native.Nat.{ℕ, zero, suc, _+_, _%_, max}
+use mathlib.Core.Bool.{Bool, false, cond, _&&_, _||_}
+use mathlib.Core.List.{List, [], _∷_}
+use mathlib.Core.Option.{Option, none, some}
+use lib.Dec.{leb, eqb}
+use Rattle.regions.specs.declared.Region.{Region}
+use Rattle.regions.specs.Meaning.{end, inside, top}
+use Rattle.regions.specs.Free.{freeRuns}
+use Rattle.tables.specs.Block.{Contents}
+use Rattle.search.specs.declared.Query.{Query}
+
+-- ---- the lowest and the highest number below n at which p holds
+
+abbrev pub orElse : {A : Type 0} → Option A → Option A → Option A
+orElse none o = o
+orElse (some a) o = some a
+
+unfoldable pub lowest : (ℕ → Bool) → ℕ → Option ℕ
+lowest p zero = none
+lowest p (suc n) = orElse (lowest p n) (cond (p n) (some n) none)
+
+unfoldable pub highest : (ℕ → Bool) → ℕ → Option ℕ
+highest p zero = none
+highest p (suc n) = cond (p n) (some n) (highest p n)
+
+-- ---- eligible
+
+-- node n is the one asked for; 0xFFFFFFFF means any
+abbrev pub asked : ℕ → ℕ → Bool
+asked node n = eqb node 4294967295 || eqb n node
+
+-- the size addresses from a lie in the run r, of the node asked for
+abbrev pub holds : ℕ → ℕ → ℕ → Region → Bool
+holds node size a r = asked node (r .tag .node) && (leb (r .base .0) a && leb (a + size) (end r))
+
+-- they lie in one of the runs
+unfoldable pub inOne : ℕ → ℕ → ℕ → List Region → Bool
+inOne node size a [] = false
+inOne node size a (r ∷ rs) = holds node size a r || inOne node size a rs
+
+-- document 01's eligible: a multiple of the alignment, start ≤ a, a + size ≤ end, and the size addresses from a in one free run
+unfoldable pub eligible : Query → List Region → ℕ → Bool
+eligible q runs a =
+    eqb (a % q .align .0) 0 && ((leb (q .start .0) a && leb (a + q .size .0) (q .end .0)) && inOne (q .node) (q .size .0) a runs)
+
+-- ---- find
+
+-- document 01's window: an end of 0 means the limit, start is raised to at least 4096, then end to at least start
+abbrev pub windowStart : ℕ → ℕ
+windowStart start = max start 4096
+
+abbrev pub windowEnd : ℕ → ℕ → ℕ → ℕ
+windowEnd limit start end = max (cond (eqb end 0) limit end) (windowStart start)
+
+abbrev pub window : ℕ → Query → Query
+window limit q =
+    record {
+      size = q .size;
+      align = q .align;
+      start = record { 0 = windowStart (q .start .0) };
+      end = record { 0 = windowEnd limit (q .start .0) (q .end .0) };
+      node = q .node;
+    }
+
+abbrev pub runsOf : Contents → List Region
+runsOf s = freeRuns (s .memory) (s .taken)
+
+-- what find finds: bottom-up (direction 1) the lowest eligible address, top-down the highest
+unfoldable pub found : Contents → Query → Option ℕ
+found s q =
+    cond (eqb (s .direction) 1) (lowest (eligible (window (s .limit) q) (runsOf s)) top) (highest (eligible (window (s .limit) q) (runsOf s)) top)
+
+-- ---- next free
+
+-- a at or above p, in a free run of the node asked for
+abbrev pub freeFrom : ℕ → ℕ → List Region → ℕ → Bool
+freeFrom p node runs a = leb p a && inOne node 1 a runs
+
+-- the end of the run that a lies in; 0, if it lies in none
+unfoldable pub runEnd : List Region → ℕ → ℕ
+runEnd [] a = 0
+runEnd (r ∷ rs) a = cond (inside (r .base .0) (end r) a) (end r) (runEnd rs a)
+
+unfoldable pub lowestFree : Contents → ℕ → ℕ → Option ℕ
+lowestFree s p node = lowest (freeFrom p node (runsOf s)) top

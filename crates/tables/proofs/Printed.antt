@@ -1,0 +1,111 @@
+-- The blocks that document 01 prints agree with the definitions: a fresh block, and a fresh block after one add. Assumes nothing.
+use Prim.Native.Nat.{ℕ, _+_, _≤_}
+use mathlib.Core.Path.{_≡_, refl, sym, ap, _∙_}
+use mathlib.Core.Bool.{true}
+use mathlib.Core.List.{List, [], _∷_, _++_}
+use native.Mathlib.Omega.{arith}
+use lib.ListN.{length, replicate, replicate-append-replicate}
+use borrow.Author.Tests.{eq-eqb, le-leb}
+use Rattle.regions.specs.declared.Kind.the-variants.{Memory}
+use Rattle.regions.specs.declared.Region.{Region}
+use Rattle.regions.specs.declared.State.the-variants.{Absent}
+use Rattle.regions.specs.declared.Change.the-variants.{Fill}
+use Rattle.regions.specs.Meaning.{region, at, join, push, total, top, top-is}
+use Rattle.regions.specs.Lists.{fits, rises, legal, legalTag, goodList}
+use Rattle.regions.specs.Changes.{change, cut, changed}
+use Rattle.regions.specs.Bytes.{bytes, regionBytes, regionsBytes, tableBytes}
+use Rattle.regions.proofs.Rises.{done, Canonical, rises-Rises}
+use Rattle.regions.proofs.Count.{sizes}
+use Rattle.regions.proofs.RoundTrip.{rises-weaken}
+use Rattle.regions.proofs.Good.{total-is-sizes}
+use Rattle.regions.proofs.Twins.{stretch, walk, update}
+use Rattle.regions.proofs.Update.{update-shortest}
+use Rattle.tables.specs.Block.{current, capacity, offset, withList, freshContents, entryBytes, entriesBytes, settingsBytes, totalsBytes, headerBytes, blockBytes, goodTable, goodContents, good}
+use Rattle.tables.specs.Commands.{outcome, tag, fresh, store, add}
+use Rattle.tables.proofs.Setting.{small-current, freshHeader, total-empty, fresh-spelled}
+use Rattle.tables.proofs.Reading.{Spellable, contents-spelled, good-spelled-block}
+
+-- the first 80 bytes of a fresh block; zeros follow
+abbrev pub freshPrinted : List ℕ
+freshPrinted =
+    0x01 ∷ 0x00 ∷ 0x00 ∷ 0x00 ∷ 0x02 ∷ 0x00 ∷ 0x00 ∷ 0x00 ∷ 0x01 ∷ 0x00 ∷ 0x00 ∷ 0x00 ∷ 0x50 ∷ 0x00 ∷ 0x00 ∷ 0x00 ∷
+    0x00 ∷ 0x00 ∷ 0x00 ∷ 0x00 ∷ 0x80 ∷ 0x00 ∷ 0x00 ∷ 0x00 ∷ 0x02 ∷ 0x00 ∷ 0x00 ∷ 0x00 ∷ 0x50 ∷ 0x0C ∷ 0x00 ∷ 0x00 ∷
+    0x00 ∷ 0x00 ∷ 0x00 ∷ 0x00 ∷ 0x80 ∷ 0x00 ∷ 0x00 ∷ 0x00 ∷ 0xFF ∷ 0xFF ∷ 0xFF ∷ 0xFF ∷ 0xFF ∷ 0xFF ∷ 0xFF ∷ 0xFF ∷
+    0x00 ∷ 0x00 ∷ 0x00 ∷ 0x00 ∷ 0x00 ∷ 0x00 ∷ 0x00 ∷ 0x00 ∷ 0x00 ∷ 0x00 ∷ 0x00 ∷ 0x00 ∷ 0x00 ∷ 0x00 ∷ 0x00 ∷ 0x00 ∷
+    0x00 ∷ 0x00 ∷ 0x00 ∷ 0x00 ∷ 0x00 ∷ 0x00 ∷ 0x00 ∷ 0x00 ∷ 0x00 ∷ 0x00 ∷ 0x00 ∷ 0x00 ∷ 0x00 ∷ 0x00 ∷ 0x00 ∷ 0x00 ∷ []
+
+-- fresh followed by add(0x1000, 0x1000, flags 0, node 0), the first 104 bytes as printed; zeros follow
+abbrev pub addPrinted : List ℕ
+addPrinted =
+    0x01 ∷ 0x00 ∷ 0x00 ∷ 0x00 ∷ 0x02 ∷ 0x00 ∷ 0x00 ∷ 0x00 ∷ 0x01 ∷ 0x00 ∷ 0x00 ∷ 0x00 ∷ 0x50 ∷ 0x00 ∷ 0x00 ∷ 0x00 ∷
+    0x01 ∷ 0x00 ∷ 0x00 ∷ 0x00 ∷ 0x80 ∷ 0x00 ∷ 0x00 ∷ 0x00 ∷ 0x02 ∷ 0x00 ∷ 0x00 ∷ 0x00 ∷ 0x50 ∷ 0x0C ∷ 0x00 ∷ 0x00 ∷
+    0x00 ∷ 0x00 ∷ 0x00 ∷ 0x00 ∷ 0x80 ∷ 0x00 ∷ 0x00 ∷ 0x00 ∷ 0xFF ∷ 0xFF ∷ 0xFF ∷ 0xFF ∷ 0xFF ∷ 0xFF ∷ 0xFF ∷ 0xFF ∷
+    0x00 ∷ 0x00 ∷ 0x00 ∷ 0x00 ∷ 0x00 ∷ 0x00 ∷ 0x00 ∷ 0x00 ∷ 0x00 ∷ 0x10 ∷ 0x00 ∷ 0x00 ∷ 0x00 ∷ 0x00 ∷ 0x00 ∷ 0x00 ∷
+    0x00 ∷ 0x00 ∷ 0x00 ∷ 0x00 ∷ 0x00 ∷ 0x00 ∷ 0x00 ∷ 0x00 ∷ 0x00 ∷ 0x00 ∷ 0x00 ∷ 0x00 ∷ 0x00 ∷ 0x00 ∷ 0x00 ∷ 0x00 ∷
+    0x00 ∷ 0x10 ∷ 0x00 ∷ 0x00 ∷ 0x00 ∷ 0x00 ∷ 0x00 ∷ 0x00 ∷ 0x00 ∷ 0x10 ∷ 0x00 ∷ 0x00 ∷ 0x00 ∷ 0x00 ∷ 0x00 ∷ 0x00 ∷
+    0x00 ∷ 0x00 ∷ 0x00 ∷ 0x00 ∷ 0x00 ∷ 0x00 ∷ 0x00 ∷ 0x00 ∷ []
+
+-- ---- fresh
+
+fresh-head : headerBytes current freshHeader ≡ freshPrinted
+unfolding headerBytes entriesBytes entryBytes settingsBytes totalsBytes capacity offset bytes
+fresh-head = refl
+
+fresh-block : blockBytes current freshContents ≡ freshPrinted ++ replicate 6144 0
+fresh-block = fresh-spelled current ∙ ap (λ (x : List ℕ). x ++ replicate 6144 0) fresh-head
+
+-- fresh over any 6,224 bytes
+pub fresh-printed : (b : List ℕ) → length b ≡ 6224 → fresh current b ≡ outcome 0 (freshPrinted ++ replicate 6144 0)
+unfolding fresh
+fresh-printed b e = rw (eq-eqb (length b) 6224 e, fresh-block)
+
+fresh-spellable : Spellable current freshContents
+unfolding goodContents goodTable goodList rises legal capacity
+fresh-spellable =
+    let t : rises 0 Absent top [] ≡ true = le-leb 0 top (omega arith) in
+    record { good = rw t; limit = omega arith }
+
+-- ---- one range added
+
+-- a command's range up to an end below the top
+pub cut-low : (base size : ℕ) → base + size ≤ top → cut base size ≡ base + size
+cut-low base size h = omega arith
+
+abbrev first : List Region
+first = region 0x1000 0x1000 (tag 0 0) ∷ []
+
+first-updated : update (change (Fill (tag 0 0))) 0x1000 0x2000 [] ≡ first
+unfolding update walk stretch push join change
+first-updated = refl
+
+first-changed : changed (Fill (tag 0 0)) 0x1000 0x1000 [] ≡ first
+unfolding changed
+first-changed =
+    let e : cut 0x1000 0x1000 ≡ 0x2000 = cut-low 0x1000 0x1000 (omega (arith, top-is)) in
+    let z : 0 ≤ top = omega arith in
+    rw e (sym (update-shortest (change (Fill (tag 0 0))) 0x1000 0x2000 top [] (omega arith) (omega (arith, top-is)) (done z)) ∙ first-updated)
+
+first-canonical : Canonical top first
+unfolding rises fits
+first-canonical = rises-weaken top (rises-Rises 0 Absent 0x2000 first refl) (omega (arith, top-is))
+
+first-total : total (at first) top ≡ 0x1000
+unfolding sizes
+first-total = total-is-sizes first first-canonical
+
+first-block : blockBytes current (withList freshContents Memory first) ≡ addPrinted ++ replicate 6120 0
+unfolding blockBytes headerBytes entriesBytes entryBytes settingsBytes totalsBytes tableBytes regionsBytes regionBytes capacity offset bytes
+first-block = rw (first-total, total-empty) (ap (λ (x : List ℕ). addPrinted ++ x) (replicate-append-replicate 3048 3072 0))
+
+-- add to the fresh block
+pub add-printed : add current 0x1000 0x1000 0 0 (freshPrinted ++ replicate 6144 0) ≡ outcome 0 (addPrinted ++ replicate 6120 0)
+unfolding add store legalTag capacity
+add-printed =
+    let s = fresh-spellable in
+    rw (
+      ← fresh-block,
+      good-spelled-block current small-current freshContents s,
+      contents-spelled current small-current freshContents s,
+      first-changed,
+      first-block,
+    )

@@ -1,0 +1,105 @@
+-- The outcomes of fresh and set, answer by answer. Assumes nothing.
+use Prim.Native.Nat.{ℕ, _+_, _*_, _-_, _≤_, _<_}
+use mathlib.Core.Path.{_≡_, sym, ap, _∙_}
+use mathlib.Core.Bool.{Bool, true, false, not}
+use mathlib.Core.List.{List, [], _++_}
+use native.Mathlib.Omega.{arith}
+use lib.ListN.{length, take, drop, replicate, length-append, length-replicate, replicate-append-replicate}
+use lib.Seq.{sets, sets-eq, drop-at, length-take-le}
+use borrow.Author.Tests.{eq-eqb, ne-eqb, le-leb, lt-leb, not-true, not-false}
+use Rattle.address.specs.declared.Address.{Address}
+use Rattle.regions.specs.Meaning.{at, total, top}
+use Rattle.regions.specs.Bytes.{tableBytes, regionsBytes}
+use Rattle.regions.proofs.Rises.{done}
+use Rattle.regions.proofs.Count.{sizes}
+use Rattle.regions.proofs.Good.{total-is-sizes}
+use Rattle.regions.proofs.Numbers.{Bytes}
+use Rattle.tables.specs.declared.block.Layout.{Layout}
+use Rattle.tables.specs.declared.block.Header.{Header}
+use Rattle.tables.specs.Block.{current, capacity, blockLength, freshContents, headerBytes, headerOf, blockBytes, readHeader, good}
+use Rattle.tables.specs.Checks.{Small}
+use Rattle.tables.specs.Commands.{outcome, fresh, set}
+use Rattle.tables.proofs.Header.{header-length}
+use Rattle.tables.proofs.Blocks.{good-length}
+use Rattle.tables.proofs.Reading.{good-header, good-tables}
+
+pub small-current : Small current
+small-current = record { memory = omega arith; taken = omega arith }
+
+pub small-layout : (l : Layout) → l ≡ current → Small l
+small-layout l e = rw e small-current
+
+-- a header written over a block's first 80 bytes
+pub sets-header : (L : Layout) (h : Header) (b : List ℕ) → 80 ≤ length b → sets b 0 (headerBytes L h) ≡ headerBytes L h ++ drop 80 b
+sets-header L h b n =
+    let k : 0 + length (headerBytes L h) ≤ length b = omega (arith, header-length L h) in
+    sets-eq (headerBytes L h) b 0 k ∙ rw header-length
+
+-- ---- fresh
+
+pub total-empty : total (at []) top ≡ 0
+unfolding sizes
+total-empty = let l : 0 ≤ top = omega arith in total-is-sizes [] (done l)
+
+-- the header of a fresh block
+abbrev pub freshHeader : Header
+freshHeader =
+    record {
+      memory = record { count = 0; total = record { 0 = 0 } };
+      taken = record { count = 0; total = record { 0 = 0 } };
+      limit = record { 0 = 18446744073709551615 };
+      direction = 0;
+    }
+
+fresh-header : headerOf freshContents ≡ freshHeader
+fresh-header = rw total-empty
+
+pub fresh-spelled : (L : Layout) → blockBytes L freshContents ≡ headerBytes L freshHeader ++ replicate (24 * (L .memory + L .taken)) 0
+unfolding blockBytes tableBytes regionsBytes capacity
+fresh-spelled L =
+    let z : 24 * (L .memory - 0) + 24 * (L .taken - 0) ≡ 24 * (L .memory + L .taken) = omega arith in
+    rw (total-empty, replicate-append-replicate, z)
+
+module _ (l : Layout) (is : l ≡ current) (b : List ℕ) where
+  pub fresh-refused : (length b ≡ 80 + 24 * (l .memory + l .taken) → ⊥) → outcome 1 b ≡ fresh current b
+  unfolding fresh
+  fresh-refused d = rw (ne-eqb (length b) (blockLength current) (rw is at d))
+
+  pub fresh-done : length b ≡ 80 + 24 * (l .memory + l .taken) → (h : Header) → h ≡ freshHeader → (x y : List ℕ) → x ≡ take 80 b ++ replicate (length b - 80) 0
+      → y ≡ sets x 0 (headerBytes l h) → outcome 0 y ≡ fresh current b
+  unfolding fresh
+  fresh-done f h k x y p q =
+      let n : length b ≡ 6224 = rw is at f in
+      let m : length (take 80 b) ≡ 80 = length-take-le 80 b (omega arith) in
+      let z : length b - 80 ≡ 6144 = omega arith in
+      let d : drop 80 x ≡ replicate 6144 0 = rw (p, z) (drop-at (take 80 b) (replicate 6144 0) 80 m) in
+      let e : 80 ≤ length x = rw p (simp (length-append, length-replicate) (omega arith)) in
+      let w : y ≡ blockBytes current freshContents =
+      q ∙ rw (is, k) (sets-header current freshHeader x e) ∙ ap (λ (r : List ℕ). headerBytes current freshHeader ++ r) d ∙ sym (fresh-spelled current) in
+      rw (eq-eqb (length b) (blockLength current) n, w)
+
+-- ---- set
+
+module _ (l : Layout) (is : l ≡ current) (b : List ℕ) (x : Address) (d : ℕ) (g : Bool) (q : g ≡ good l b) where
+  good-now : (t : Bool) → g ≡ t → good current b ≡ t
+  good-now t e = rw (← is) (sym q ∙ e)
+
+  pub set-bad : not g ≡ true → outcome 1 b ≡ set current (x .0) d b
+  unfolding set
+  set-bad t = rw (good-now false (not-true g t))
+
+  module _ (t : not g ≡ false) where
+    pub set-direction : 1 < d → outcome 7 b ≡ set current (x .0) d b
+    unfolding set
+    set-direction h = rw (good-now true (not-false g t), lt-leb d 1 h)
+
+    pub set-room : 80 ≤ length b
+    set-room = omega (arith, good-length current b (good-now true (not-false g t)))
+
+    pub set-done : Bytes b → d ≤ 1 → (own : Header) → own ≡ readHeader b → (y : List ℕ)
+        → y ≡ sets b 0 (headerBytes l (record { memory = own .memory; taken = own .taken; limit = x; direction = d })) → outcome 0 y ≡ set current (x .0) d b
+    unfolding set blockBytes
+    set-done bs h own r y p =
+        let k : good current b ≡ true = good-now true (not-false g t) in
+        let e = r ∙ good-header current small-current b bs k in
+        rw (k, le-leb d 1 h, p, is, e, sets-header current _ b set-room, good-tables current b k)

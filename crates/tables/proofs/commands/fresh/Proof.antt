@@ -1,0 +1,54 @@
+-- `tables::commands::fresh` meets its contract.
+use Rattle.tables.proofs.Setting.{small-layout, fresh-refused, fresh-done}
+use borrow.Author.Needs.{needs}
+use Rattle.tables.proofs.commands.fresh.Statement.{statement}
+use Rattle.tables.proofs.commands.fresh.Tie as tie
+
+current-layout-requires : tie.Need-current-layout-requires
+current-layout-requires c κs = search needs
+
+cast-if1 : tie.Need-cast-if1
+cast-if1 c = search needs
+
+cast-if1-2 : tie.Need-cast-if1-2
+cast-if1-2 c = search needs
+
+add-if1 : tie.Need-add-if1
+add-if1 c = search needs
+
+mul-if1 : tie.Need-mul-if1
+mul-if1 c = search needs
+
+add-if1-2 : tie.Need-add-if1-2
+add-if1-2 c = search needs
+
+returns : tie.Need-returns
+returns c = search (fresh-refused, needs)
+
+put-zeros-requires : tie.Need-put-zeros-requires
+put-zeros-requires c κs = search needs
+
+put-header-requires : tie.Need-put-header-requires
+put-header-requires c κs = search (small-layout, needs)
+
+same-length : tie.Need-same-length
+same-length c = search needs
+
+returns-2 : tie.Need-returns-2
+returns-2 c = search (fresh-done, needs)
+
+pub fresh-spec : {M : Type 1} → statement M
+fresh-spec =
+    tie.close
+    (tie.spec
+    current-layout-requires
+    cast-if1
+    cast-if1-2
+    add-if1
+    mul-if1
+    add-if1-2
+    returns
+    put-zeros-requires
+    put-header-requires
+    same-length
+    returns-2)

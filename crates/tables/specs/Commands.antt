@@ -1,0 +1,82 @@
+-- What each command on the tables answers and leaves, for all inputs: refusals in document 01's order. Assumes nothing.
+use Prim.Native.Nat.{ℕ}
+use mathlib.Core.Bool.{Bool, cond}
+use mathlib.Core.List.{List}
+use lib.Dec.{leb, eqb}
+use lib.ListN.{length}
+use Rattle.address.specs.Numbers.{powerOfTwo}
+use Rattle.regions.specs.declared.Kind.{Kind}
+use Rattle.regions.specs.declared.Kind.the-variants.{Memory, Taken}
+use Rattle.regions.specs.declared.Tag.{Tag}
+use Rattle.regions.specs.declared.Region.{Region}
+use Rattle.regions.specs.declared.Change.{Change}
+use Rattle.regions.specs.declared.Change.the-variants.{Fill, Clear, Mark, Unmark}
+use Rattle.regions.specs.Lists.{legalTag}
+use Rattle.regions.specs.Changes.{changed}
+use Rattle.regions.specs.Trim.{trimmedList}
+use Rattle.tables.specs.declared.block.Layout.{Layout}
+use Rattle.tables.specs.Block.{blockLength, capacity, listOf, withList, freshContents, blockBytes, contents, good}
+
+-- the number that boot code gets back, and every byte of the block after the call
+pub record Outcome : Type 0 where
+  pub number : ℕ
+  pub block : List ℕ
+
+abbrev pub outcome : ℕ → List ℕ → Outcome
+outcome n b = record { number = n; block = b }
+
+-- document 01's done
+abbrev pub done : List ℕ → Outcome
+done b = outcome 0 b
+
+-- refused with n, and the block as lent, unless the test holds
+abbrev pub unless : Bool → ℕ → List ℕ → Outcome → Outcome
+unless test n b o = cond test o (outcome n b)
+
+unfoldable pub fresh : Layout → List ℕ → Outcome
+fresh L b = unless (eqb (length b) (blockLength L)) 1 b (done (blockBytes L freshContents))
+
+unfoldable pub set : Layout → ℕ → ℕ → List ℕ → Outcome
+set L limit direction b =
+    let s = contents L b in
+    unless (good L b) 1 b
+    (unless (leb direction 1) 7 b
+    (done (blockBytes L (record { memory = s .memory; taken = s .taken; limit = limit; direction = direction }))))
+
+-- the block with another list in one of its tables, if the table has room for it
+unfoldable pub store : Layout → Kind → List Region → List ℕ → Outcome
+store L k xs b = unless (leb (length xs) (capacity L k)) 6 b (done (blockBytes L (withList (contents L b) k xs)))
+
+-- a change made over a range of a table
+abbrev pub changeRange : Layout → Kind → Change → ℕ → ℕ → List ℕ → Outcome
+changeRange L k c base size b = store L k (changed c base size (listOf (contents L b) k)) b
+
+abbrev pub tag : ℕ → ℕ → Tag
+tag flags node = record { flags = flags; node = node }
+
+unfoldable pub add : Layout → ℕ → ℕ → ℕ → ℕ → List ℕ → Outcome
+add L base size flags node b =
+    unless (good L b) 1 b (unless (legalTag Memory (tag flags node)) 2 b (changeRange L Memory (Fill (tag flags node)) base size b))
+
+unfoldable pub remove : Layout → ℕ → ℕ → List ℕ → Outcome
+remove L base size b = unless (good L b) 1 b (changeRange L Memory Clear base size b)
+
+-- no-map is flag 4
+unfoldable pub mark : Layout → ℕ → ℕ → List ℕ → Outcome
+mark L base size b = unless (good L b) 1 b (changeRange L Memory (Mark 4) base size b)
+
+unfoldable pub unmark : Layout → ℕ → ℕ → List ℕ → Outcome
+unmark L base size b = unless (good L b) 1 b (changeRange L Memory (Unmark 4) base size b)
+
+-- in the taken table every tag is 0, 0
+unfoldable pub reserve : Layout → ℕ → ℕ → List ℕ → Outcome
+reserve L base size b = unless (good L b) 1 b (changeRange L Taken (Fill (tag 0 0)) base size b)
+
+unfoldable pub free : Layout → ℕ → ℕ → List ℕ → Outcome
+free L base size b = unless (good L b) 1 b (changeRange L Taken Clear base size b)
+
+-- trim needs no more room than there was, so it never answers 6
+unfoldable pub trim : Layout → ℕ → List ℕ → Outcome
+trim L align b =
+    unless (good L b) 1 b
+    (unless (powerOfTwo align) 3 b (done (blockBytes L (withList (contents L b) Memory (trimmedList align (contents L b .memory))))))

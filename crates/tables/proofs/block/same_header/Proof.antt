@@ -1,3 +1,4 @@
+use native.Mathlib.Omega.{arith}
 -- `tables::block::same_header` meets its contract.
 use Prim.Native.Nat.{_*_, _-_, _≤_}
 use lib.ListN.{drop}
@@ -33,7 +34,11 @@ get-u64-requires-2 : tie.Need-get-u64-requires-2 Inv-loop μ-loop
 get-u64-requires-2 c κs = search needs
 
 returns : tie.Need-returns Inv-loop μ-loop
-returns c = search (same-hit, needs)
+returns c =
+    let k = c .before .before .before .before in
+    let p = k .before .before .before .pre in
+    let v = k .loop .inv in
+    same-hit _ _ (v .1 .0) (v .1 .1 .0) (p .0) (p .1) (k .loop .i) (v .1 .1 .1) _ _ (omega arith) (c .before .before .get-u64 .ensures) (c .before .get-u642 .ensures) (c .if1 .taken)
 
 add-i : tie.Need-add-i Inv-loop μ-loop
 add-i c = search needs
@@ -48,7 +53,7 @@ loop-again c =
     let v = k .loop .inv in
     let e = c .before .before .get-u64 .ensures in
     let u = c .before .get-u642 .ensures in
-    (search needs, (search needs, (search needs, same-again _ _ (v .1 .0) (v .1 .1 .0) (p .0) (p .1) _ (v .1 .1 .1) _ _ (c .before .before .before .loop-test .taken) e u (c .if1 .left))))
+    (search needs, (search needs, (search needs, same-again _ _ (v .1 .0) (v .1 .1 .0) (p .0) (p .1) (k .loop .i) (v .1 .1 .1) _ _ (omega arith) e u (c .if1 .left))))
 
 returns-2 : tie.Need-returns-2 Inv-loop μ-loop
 returns-2 c = search (same-end, needs)

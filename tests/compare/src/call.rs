@@ -1,0 +1,242 @@
+//! One call with its numbers, to be made on the archive or on the model.
+
+use crate::archive;
+use model::Wish;
+
+#[derive(Clone, Copy, Debug, PartialEq, Eq, Hash, PartialOrd, Ord)]
+pub enum Command {
+    Fresh,
+    Set,
+    Add,
+    Remove,
+    Mark,
+    Unmark,
+    Reserve,
+    Free,
+    Trim,
+    NextFree,
+    Find,
+    Allocate,
+}
+
+use Command::*;
+
+impl Command {
+    pub const ALL: [Command; 12] = [
+        Fresh, Set, Add, Remove, Mark, Unmark, Reserve, Free, Trim, NextFree, Find, Allocate,
+    ];
+
+    /// The commands that demand 3 speaks of.
+    pub const LISTED: [Command; 6] = [Add, Remove, Mark, Unmark, Reserve, Free];
+
+    pub fn name(self) -> &'static str {
+        match self {
+            Fresh => "memblock_fresh",
+            Set => "memblock_set",
+            Add => "memblock_add",
+            Remove => "memblock_remove",
+            Mark => "memblock_mark",
+            Unmark => "memblock_unmark",
+            Reserve => "memblock_reserve",
+            Free => "memblock_free",
+            Trim => "memblock_trim",
+            NextFree => "memblock_next_free",
+            Find => "memblock_find",
+            Allocate => "memblock_allocate",
+        }
+    }
+
+    /// The numbers that document 01 allows.
+    pub fn allowed(self) -> &'static [u32] {
+        match self {
+            Fresh => &[0, 1],
+            Set => &[0, 1, 7],
+            Add => &[0, 1, 2, 6],
+            Remove | Mark | Unmark | Reserve | Free => &[0, 1, 6],
+            Trim => &[0, 1, 3],
+            NextFree => &[0, 8, 1, 2, 5],
+            Find => &[0, 8, 1, 2, 3, 4, 5],
+            Allocate => &[0, 8, 1, 2, 3, 4, 5, 6],
+        }
+    }
+
+    pub fn takes_slip(self) -> bool {
+        matches!(self, NextFree | Find | Allocate)
+    }
+
+    pub fn on_taken(self) -> bool {
+        matches!(self, Reserve | Free)
+    }
+
+    pub fn is_there(self) -> bool {
+        archive::DEFINED.contains(&self.name())
+    }
+}
+
+#[derive(Clone, Copy, Debug, PartialEq, Eq, Hash)]
+pub enum Call {
+    Fresh,
+    Set {
+        limit: u64,
+        direction: u32,
+    },
+    Add {
+        base: u64,
+        size: u64,
+        flags: u32,
+        node: u32,
+    },
+    /// Remove, mark, unmark, reserve or free.
+    Range {
+        command: Command,
+        base: u64,
+        size: u64,
+    },
+    Trim {
+        alignment: u64,
+    },
+    NextFree {
+        from: u64,
+        node: u32,
+    },
+    Find(Wish),
+    Allocate(Wish),
+}
+
+impl Call {
+    pub fn command(&self) -> Command {
+        match *self {
+            Call::Fresh => Fresh,
+            Call::Set { .. } => Set,
+            Call::Add { .. } => Add,
+            Call::Range { command, .. } => command,
+            Call::Trim { .. } => Trim,
+            Call::NextFree { .. } => NextFree,
+            Call::Find(_) => Find,
+            Call::Allocate(_) => Allocate,
+        }
+    }
+
+    /// The call as text, numbers in hexadecimal.
+    pub fn text(&self) -> String {
+        let name = self.command().name();
+        let numbers: Vec<(&str, u64)> = match *self {
+            Call::Fresh => vec![],
+            Call::Set { limit, direction } => {
+                vec![("limit", limit), ("direction", direction.into())]
+            }
+            Call::Add {
+                base,
+                size,
+                flags,
+                node,
+            } => vec![
+                ("base", base),
+                ("size", size),
+                ("flags", flags.into()),
+                ("node", node.into()),
+            ],
+            Call::Range { base, size, .. } => vec![("base", base), ("size", size)],
+            Call::Trim { alignment } => vec![("alignment", alignment)],
+            Call::NextFree { from, node } => vec![("from", from), ("node", node.into())],
+            Call::Find(w) | Call::Allocate(w) => vec![
+                ("size", w.size),
+                ("alignment", w.alignment),
+                ("start", w.start),
+                ("end", w.end),
+                ("node", w.node.into()),
+            ],
+        };
+        let numbers: Vec<String> = numbers
+            .iter()
+            .map(|(what, x)| format!("{what} {x:#x}"))
+            .collect();
+        format!("{name}({})", numbers.join(", "))
+    }
+
+    pub fn on_model(&self, block: &mut [u8], slip: &mut [u8]) -> u32 {
+        match *self {
+            Call::Fresh => model::fresh(block),
+            Call::Set { limit, direction } => model::set(block, limit, direction),
+            Call::Add {
+                base,
+                size,
+                flags,
+                node,
+            } => model::add(block, base, size, flags, node),
+            Call::Range {
+                command,
+                base,
+                size,
+            } => match command {
+                Remove => model::remove(block, base, size),
+                Mark => model::mark(block, base, size),
+                Unmark => model::unmark(block, base, size),
+                Reserve => model::reserve(block, base, size),
+                Free => model::free(block, base, size),
+                other => unreachable!("{other:?} is not a range command"),
+            },
+            Call::Trim { alignment } => model::trim(block, alignment),
+            Call::NextFree { from, node } => model::next_free(block, from, node, slip),
+            Call::Find(wish) => model::find(block, &wish, slip),
+            Call::Allocate(wish) => model::allocate(block, &wish, slip),
+        }
+    }
+
+    /// The same call on the archive.
+    pub fn on_archive(&self, block: &mut [u8], slip: &mut [u8]) -> u32 {
+        let (b, len) = (block.as_mut_ptr(), block.len());
+        let (s, slip_len) = (slip.as_mut_ptr(), slip.len());
+        // The pointers and lengths name the two buffers above, which share no byte.
+        unsafe {
+            match *self {
+                Call::Fresh => archive::memblock_fresh(b, len),
+                Call::Set { limit, direction } => archive::memblock_set(b, len, limit, direction),
+                Call::Add {
+                    base,
+                    size,
+                    flags,
+                    node,
+                } => archive::memblock_add(b, len, base, size, flags, node),
+                Call::Range {
+                    command,
+                    base,
+                    size,
+                } => match command {
+                    Remove => archive::memblock_remove(b, len, base, size),
+                    Mark => archive::memblock_mark(b, len, base, size),
+                    Unmark => archive::memblock_unmark(b, len, base, size),
+                    Reserve => archive::memblock_reserve(b, len, base, size),
+                    Free => archive::memblock_free(b, len, base, size),
+                    other => unreachable!("{other:?} is not a range command"),
+                },
+                Call::Trim { alignment } => archive::memblock_trim(b, len, alignment),
+                Call::NextFree { from, node } => {
+                    archive::memblock_next_free(b, len, from, node, s, slip_len)
+                }
+                Call::Find(w) => archive::memblock_find(
+                    b,
+                    len,
+                    w.size,
+                    w.alignment,
+                    w.start,
+                    w.end,
+                    w.node,
+                    s,
+                    slip_len,
+                ),
+                Call::Allocate(w) => archive::memblock_allocate(
+                    b,
+                    len,
+                    w.size,
+                    w.alignment,
+                    w.start,
+                    w.end,
+                    w.node,
+                    s,
+                    slip_len,
+                ),
+            }
+        }
+    }
+}

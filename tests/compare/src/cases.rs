@@ -1,0 +1,335 @@
+//! The twelve cases of document 01, run through the archive.
+
+use crate::blocks::{get_u64, read_recs};
+use crate::call::{Call, Command};
+use crate::desk::Desk;
+use model::layout::*;
+use model::Wish;
+
+const TOP_DOWN: u32 = 0;
+const BOTTOM_UP: u32 = 1;
+
+/// One block and the calls of a case on it.
+struct Case<'a> {
+    desk: &'a mut Desk,
+    block: Vec<u8>,
+}
+
+impl Case<'_> {
+    fn new(desk: &mut Desk) -> Case<'_> {
+        let mut case = Case {
+            desk,
+            block: vec![0xA5; BLOCK_LEN],
+        };
+        case.does(Call::Fresh, 0);
+        case
+    }
+
+    fn expect<T: PartialEq + std::fmt::Debug>(&self, what: &str, got: T, wanted: T) {
+        if got != wanted {
+            self.desk
+                .fail(&format!("{what}: {got:x?}, document 01 says {wanted:x?}"));
+        }
+    }
+
+    fn does(&mut self, call: Call, number: u32) {
+        let got = self.desk.call(&call, &mut self.block, &mut []);
+        self.expect(&call.text(), got, number);
+    }
+
+    fn add(&mut self, base: u64, size: u64, node: u32) {
+        self.add_gives(base, size, node, 0);
+    }
+
+    fn add_gives(&mut self, base: u64, size: u64, node: u32, number: u32) {
+        let call = Call::Add {
+            base,
+            size,
+            flags: 0,
+            node,
+        };
+        self.does(call, number);
+    }
+
+    fn range(&mut self, command: Command, base: u64, size: u64, number: u32) {
+        self.does(
+            Call::Range {
+                command,
+                base,
+                size,
+            },
+            number,
+        );
+    }
+
+    fn turn(&mut self, direction: u32) {
+        let limit = u64::MAX;
+        self.does(Call::Set { limit, direction }, 0);
+    }
+
+    /// A call with a slip: its two numbers, or the refusal.
+    fn asks(&mut self, call: Call, wanted: Result<(u64, u64), u32>) {
+        let mut slip = vec![0x77; SLIP_LEN];
+        let number = self.desk.call(&call, &mut self.block, &mut slip);
+        let got = match number {
+            0 => Ok((get_u64(&slip, 0), get_u64(&slip, 8))),
+            number => Err(number),
+        };
+        self.expect(&call.text(), got, wanted);
+        if number != 0 {
+            self.expect("slip", slip, vec![0; SLIP_LEN]);
+        }
+    }
+
+    fn find(&mut self, size: u64, alignment: u64, wanted: Result<u64, u32>) {
+        self.asks(
+            Call::Find(wish(size, alignment)),
+            wanted.map(|a| (a, a + size)),
+        );
+    }
+
+    fn allocate(&mut self, size: u64, alignment: u64, wanted: Result<u64, u32>) {
+        self.asks(
+            Call::Allocate(wish(size, alignment)),
+            wanted.map(|a| (a, a + size)),
+        );
+    }
+
+    fn next_free(&mut self, from: u64, wanted: Result<(u64, u64), u32>) {
+        let node = ANY_NODE;
+        self.asks(Call::NextFree { from, node }, wanted);
+    }
+
+    /// The records of a table as (base, size, flags, node), and its total.
+    fn table(&mut self, body: &Body, wanted: &[(u64, u64, u32, u32)]) {
+        let got: Vec<_> = read_recs(&self.block, body)
+            .iter()
+            .map(|r| (r.base, r.size, r.flags, r.node))
+            .collect();
+        self.expect("records", got, wanted.to_vec());
+        let sum: u64 = wanted.iter().map(|r| r.1).sum();
+        self.expect("total", get_u64(&self.block, body.total_at), sum);
+    }
+
+    fn count(&mut self, body: &Body, wanted: u64) {
+        let got = read_recs(&self.block, body).len() as u64;
+        self.expect("number of records", got, wanted);
+    }
+}
+
+fn wish(size: u64, alignment: u64) -> Wish {
+    Wish {
+        size,
+        alignment,
+        start: 0,
+        end: 0,
+        node: ANY_NODE,
+    }
+}
+
+pub fn run(desk: &mut Desk) -> u32 {
+    let cases: [fn(&mut Desk); 13] = [
+        printed,
+        one,
+        two_and_three,
+        four,
+        five,
+        six,
+        seven,
+        eight,
+        nine,
+        ten,
+        eleven,
+        eleven_taken,
+        twelve,
+    ];
+    for (turn, case) in cases.iter().enumerate() {
+        desk.turn = turn as u64;
+        case(desk);
+    }
+    12
+}
+
+/// The block that document 01 prints.
+fn printed(desk: &mut Desk) {
+    let mut c = Case::new(desk);
+    c.add(0x1000, 0x1000, 0);
+    let mut wanted = vec![0u8; BLOCK_LEN];
+    wanted[..104].copy_from_slice(&[
+        0x01, 0, 0, 0, 0x02, 0, 0, 0, // edition, bodies
+        0x01, 0, 0, 0, 0x50, 0, 0, 0, 0x01, 0, 0, 0, 0x80, 0, 0, 0, // memory entry
+        0x02, 0, 0, 0, 0x50, 0x0C, 0, 0, 0, 0, 0, 0, 0x80, 0, 0, 0, // taken entry
+        0xFF, 0xFF, 0xFF, 0xFF, 0xFF, 0xFF, 0xFF, 0xFF, // limit
+        0, 0, 0, 0, 0, 0, 0, 0, // direction, zero
+        0, 0x10, 0, 0, 0, 0, 0, 0, // memory total
+        0, 0, 0, 0, 0, 0, 0, 0, // taken total
+        0, 0, 0, 0, 0, 0, 0, 0, // zero
+        0, 0x10, 0, 0, 0, 0, 0, 0, // base
+        0, 0x10, 0, 0, 0, 0, 0, 0, // size
+        0, 0, 0, 0, 0, 0, 0, 0, // flags, node
+    ]);
+    c.expect("printed block", c.block.clone(), wanted);
+}
+
+fn m(desk: &mut Desk) -> Case<'_> {
+    let mut c = Case::new(desk);
+    c.add(0x10000, 0x10000, 0);
+    c
+}
+
+fn one(desk: &mut Desk) {
+    let mut c = m(desk);
+    c.find(0x1000, 0x1000, Ok(0x1F000));
+    c.turn(BOTTOM_UP);
+    c.find(0x1000, 0x1000, Ok(0x10000));
+    c.turn(TOP_DOWN);
+    c.find(0x1000, 0x1000, Ok(0x1F000));
+}
+
+fn two_and_three(desk: &mut Desk) {
+    let mut c = m(desk);
+    c.allocate(0x1000, 0x1000, Ok(0x1F000));
+    c.allocate(0x1000, 0x1000, Ok(0x1E000));
+    c.table(&TAKEN, &[(0x1E000, 0x2000, 0, 0)]);
+    c.range(Command::Free, 0x1E800, 0x800, 0);
+    c.table(&TAKEN, &[(0x1E000, 0x800, 0, 0), (0x1F000, 0x1000, 0, 0)]);
+    c.find(0x800, 0x800, Ok(0x1E800));
+}
+
+fn four_tables(desk: &mut Desk) -> Case<'_> {
+    let mut c = m(desk);
+    c.range(Command::Reserve, 0x18000, 0x1000, 0);
+    c
+}
+
+fn four(desk: &mut Desk) {
+    let mut c = four_tables(desk);
+    for direction in [TOP_DOWN, BOTTOM_UP] {
+        c.turn(direction);
+        c.find(0x8000, 1, Ok(0x10000));
+        c.find(0x8001, 1, Err(5));
+        c.allocate(0x8001, 1, Err(5));
+    }
+}
+
+fn five(desk: &mut Desk) {
+    let mut c = Case::new(desk);
+    c.add(0x1000, 0x1000, 0);
+    c.turn(TOP_DOWN);
+    c.find(0x3000, 1, Err(5));
+    c.find(0x1000, 1, Ok(0x1000));
+    c.find(0x1001, 1, Err(5));
+}
+
+fn six(desk: &mut Desk) {
+    let mut c = Case::new(desk);
+    c.add(0, 0x2000, 0);
+    c.turn(BOTTOM_UP);
+    c.find(0x1000, 0x1000, Ok(0x1000));
+    c.find(0x1001, 0x1000, Err(5));
+    c.next_free(0, Ok((0, 0x2000)));
+}
+
+fn seven(desk: &mut Desk) {
+    let base = u64::MAX - 4095;
+    let mut c = Case::new(desk);
+    c.add(base, 0x2000, 0);
+    c.table(&MEMORY, &[(base, 0xFFF, 0, 0)]);
+    c.add(u64::MAX, 1, 0);
+    c.table(&MEMORY, &[(base, 0xFFF, 0, 0)]);
+}
+
+fn eight(desk: &mut Desk) {
+    let base = u64::MAX - 4094;
+    let mut c = Case::new(desk);
+    c.add(base, 0xFFE, 0);
+    for direction in [TOP_DOWN, BOTTOM_UP] {
+        c.turn(direction);
+        c.find(1, 0x1000, Err(5));
+    }
+    c.does(Call::Trim { alignment: 0x1000 }, 0);
+    c.table(&MEMORY, &[]);
+}
+
+fn nine(desk: &mut Desk) {
+    let mut c = Case::new(desk);
+    c.add(0x1000, 0x1000, 0);
+    c.add(0, 0x3000, 1);
+    c.table(
+        &MEMORY,
+        &[
+            (0, 0x1000, 0, 1),
+            (0x1000, 0x1000, 0, 0),
+            (0x2000, 0x1000, 0, 1),
+        ],
+    );
+    let mut c = Case::new(desk);
+    c.add(0, 0x3000, 1);
+    c.add(0x1000, 0x1000, 0);
+    c.table(&MEMORY, &[(0, 0x3000, 0, 1)]);
+}
+
+fn ten(desk: &mut Desk) {
+    let mut c = Case::new(desk);
+    c.add(0x10000, 0x8000, 0);
+    c.add(0x18000, 0x8000, 1);
+    for (direction, a) in [(BOTTOM_UP, 0x10000), (TOP_DOWN, 0x18000)] {
+        c.turn(direction);
+        c.find(0x8001, 1, Err(5));
+        c.find(0x8000, 1, Ok(a));
+    }
+}
+
+fn eleven(desk: &mut Desk) {
+    let most = MEMORY.capacity as u64;
+    let mut c = Case::new(desk);
+    for i in 0..most {
+        c.add(0x10000 + i * 0x2000, 0x1000, 0);
+    }
+    c.count(&MEMORY, most);
+    let full = c.block.clone();
+    c.add_gives(0x100_0000, 0x1000, 0, 6);
+    c.add(0x11000, 0x1000, 0);
+    c.count(&MEMORY, most - 1);
+    c.block = full.clone();
+    c.range(Command::Remove, 0x12400, 0x400, 6);
+    c.range(Command::Remove, 0x12000, 0x1000, 0);
+    c.count(&MEMORY, most - 1);
+    // The range over all of them leaves one.
+    c.block = full;
+    c.add(0x10000, most * 0x2000, 0);
+    c.count(&MEMORY, 1);
+}
+
+/// The same for the taken table.
+fn eleven_taken(desk: &mut Desk) {
+    let most = TAKEN.capacity as u64;
+    let mut c = Case::new(desk);
+    for i in 0..most {
+        c.range(Command::Reserve, 0x10000 + i * 0x2000, 0x1000, 0);
+    }
+    c.count(&TAKEN, most);
+    let full = c.block.clone();
+    c.range(Command::Reserve, 0x100_0000, 0x1000, 6);
+    c.range(Command::Reserve, 0x11000, 0x1000, 0);
+    c.count(&TAKEN, most - 1);
+    c.block = full.clone();
+    c.range(Command::Free, 0x12400, 0x400, 6);
+    c.range(Command::Free, 0x12000, 0x1000, 0);
+    c.count(&TAKEN, most - 1);
+    // 6 speaks of the address that find would give; there is no second try.
+    c.block = full;
+    c.add(0x100_0000, 0x1000, 0);
+    c.add(0x11000, 0x1000, 0);
+    c.allocate(0x1000, 1, Err(6));
+    c.turn(BOTTOM_UP);
+    c.allocate(0x1000, 1, Ok(0x11000));
+    c.count(&TAKEN, most - 1);
+}
+
+fn twelve(desk: &mut Desk) {
+    let mut c = four_tables(desk);
+    c.next_free(0x18800, Ok((0x19000, 0x20000)));
+    c.next_free(0x1A000, Ok((0x1A000, 0x20000)));
+    c.next_free(0x20000, Err(5));
+}

@@ -1,0 +1,286 @@
+//! Makes each call twice, on the archive and on the model, from equal bytes,
+//! and stops the program at the first difference.
+
+use crate::blocks::read_recs;
+use crate::call::{Call, Command};
+use model::layout::{MEMORY, TAKEN};
+use std::sync::atomic::{AtomicU64, Ordering};
+use std::sync::Mutex;
+use std::time::Duration;
+
+/// Bytes before and after every lent buffer that must stay as they are.
+const GUARD: usize = 64;
+/// A call that takes longer than this counts as one that never ends.
+const PATIENCE: u64 = 10;
+
+/// What is needed to find a call again.
+#[derive(Clone, Copy)]
+struct Where {
+    seed: u64,
+    part: &'static str,
+    turn: u64,
+    number: u64,
+    call: Call,
+    block_len: usize,
+    slip_len: usize,
+}
+
+impl Where {
+    fn text(&self) -> String {
+        let mut text = format!(
+            "  seed {}, part {}, turn {}, call number {}\n  {}, block of {} bytes",
+            self.seed,
+            self.part,
+            self.turn,
+            self.number,
+            self.call.text(),
+            self.block_len,
+        );
+        if self.call.command().takes_slip() {
+            text += &format!(", slip of {} bytes", self.slip_len);
+        }
+        text
+    }
+}
+
+/// The call under way, for the watch and the signal handler.
+static NOW: Mutex<Option<Where>> = Mutex::new(None);
+static DONE: AtomicU64 = AtomicU64::new(0);
+
+extern "C" {
+    fn signal(number: i32, handler: usize) -> usize;
+    fn _exit(status: i32) -> !;
+}
+
+extern "C" fn stopped(number: i32) {
+    if let Ok(now) = NOW.try_lock() {
+        if let Some(place) = *now {
+            eprintln!("DIFFERENCE: signal {number} instead of an answer");
+            eprintln!("{}", place.text());
+        }
+    }
+    unsafe { _exit(1) }
+}
+
+/// Reports a call that stops the program or never ends.
+pub fn watch() {
+    // ILL, TRAP, ABRT, BUS, FPE, SEGV
+    for number in [4, 5, 6, 7, 8, 11] {
+        unsafe { signal(number, stopped as extern "C" fn(i32) as usize) };
+    }
+    std::thread::spawn(|| {
+        let mut last = u64::MAX;
+        loop {
+            std::thread::sleep(Duration::from_secs(PATIENCE));
+            let done = DONE.load(Ordering::Relaxed);
+            let now = *NOW.lock().expect("never poisoned");
+            if let (true, Some(place)) = (done == last, now) {
+                eprintln!("DIFFERENCE: no answer within {PATIENCE} seconds");
+                eprintln!("{}", place.text());
+                unsafe { _exit(1) };
+            }
+            last = done;
+        }
+    });
+}
+
+/// A buffer with guards around it, never at the same alignment for long.
+struct Lent {
+    room: Vec<u8>,
+    from: usize,
+    to: usize,
+    salt: u8,
+}
+
+impl Lent {
+    fn new() -> Lent {
+        Lent {
+            room: Vec::new(),
+            from: 0,
+            to: 0,
+            salt: 0,
+        }
+    }
+
+    fn guard(&self, at: usize) -> u8 {
+        (at as u8).wrapping_mul(29).wrapping_add(self.salt) | 1
+    }
+
+    fn fill(&mut self, bytes: &[u8], turn: u64) {
+        self.salt = turn as u8;
+        self.from = GUARD + (turn % 16) as usize;
+        self.to = self.from + bytes.len();
+        if self.room.len() < self.to + GUARD {
+            self.room.resize(self.to + GUARD, 0);
+        }
+        for at in (0..self.from).chain(self.to..self.to + GUARD) {
+            self.room[at] = self.guard(at);
+        }
+        self.room[self.from..self.to].copy_from_slice(bytes);
+    }
+
+    fn bytes(&mut self) -> &mut [u8] {
+        &mut self.room[self.from..self.to]
+    }
+
+    /// The first guard byte that was written, counted from the buffer's start.
+    fn broken(&self) -> Option<isize> {
+        (0..self.from)
+            .chain(self.to..self.to + GUARD)
+            .find(|&at| self.room[at] != self.guard(at))
+            .map(|at| at as isize - self.from as isize)
+    }
+}
+
+pub struct Desk {
+    pub seed: u64,
+    pub part: &'static str,
+    pub turn: u64,
+    pub calls: u64,
+    /// Take what the archive does for granted, so that only the checks on whole
+    /// lists and cases are left. Used to show that these can fail too.
+    pub without_model: bool,
+    pairs: [[u64; 9]; 12],
+    block_room: Lent,
+    slip_room: Lent,
+}
+
+impl Desk {
+    pub fn new(seed: u64) -> Desk {
+        Desk {
+            seed,
+            part: "",
+            turn: 0,
+            calls: 0,
+            without_model: false,
+            pairs: [[0; 9]; 12],
+            block_room: Lent::new(),
+            slip_room: Lent::new(),
+        }
+    }
+
+    /// Makes the call on both and leaves in `block` and `slip` what both left.
+    /// A function that the archive does not define is done by the model alone
+    /// and is not counted.
+    pub fn call(&mut self, call: &Call, block: &mut [u8], slip: &mut [u8]) -> u32 {
+        let command = call.command();
+        if !command.is_there() {
+            return call.on_model(block, slip);
+        }
+        self.calls += 1;
+        let place = Where {
+            seed: self.seed,
+            part: self.part,
+            turn: self.turn,
+            number: self.calls,
+            call: *call,
+            block_len: block.len(),
+            slip_len: slip.len(),
+        };
+        self.block_room.fill(block, self.calls);
+        self.slip_room.fill(slip, self.calls.wrapping_mul(7) + 3);
+
+        *NOW.lock().expect("never poisoned") = Some(place);
+        let got = call.on_archive(self.block_room.bytes(), self.slip_room.bytes());
+        *NOW.lock().expect("never poisoned") = None;
+        DONE.store(self.calls, Ordering::Relaxed);
+
+        if self.without_model {
+            block.copy_from_slice(self.block_room.bytes());
+            slip.copy_from_slice(self.slip_room.bytes());
+            return got;
+        }
+        let before = block.to_vec();
+        let slip_before = slip.to_vec();
+        let wanted = call.on_model(block, slip);
+
+        let mut wrong = String::new();
+        if got != wanted {
+            wrong += &format!("  number: archive {got}, model {wanted}\n");
+        }
+        if !command.allowed().contains(&got) {
+            wrong += &format!("  number: {got} is not one that this command can give\n");
+        }
+        for (what, room, wanted, before) in [
+            ("block", &mut self.block_room, &*block, &before),
+            ("slip", &mut self.slip_room, &*slip, &slip_before),
+        ] {
+            if let Some(at) = room.broken() {
+                wrong += &format!("  a byte outside the lent {what} was written, at {at}\n");
+            }
+            if room.bytes() != wanted {
+                let at = (0..wanted.len())
+                    .find(|&at| room.bytes()[at] != wanted[at])
+                    .expect("one differs");
+                wrong += &format!(
+                    "  {what} byte {at}: archive {:#04x}, model {:#04x}, before the call {:#04x}\n",
+                    room.bytes()[at],
+                    wanted[at],
+                    before[at],
+                );
+            }
+        }
+        if !wrong.is_empty() {
+            eprintln!("DIFFERENCE");
+            eprintln!("{}", place.text());
+            eprint!("{wrong}");
+            eprintln!("{}", describe(&before));
+            std::process::exit(1);
+        }
+        self.pairs[command as usize][got as usize] += 1;
+        got
+    }
+
+    /// Stops with a message of a check other than a single call.
+    pub fn fail(&self, message: &str) -> ! {
+        eprintln!("DIFFERENCE");
+        eprintln!(
+            "  seed {}, part {}, turn {}, after call number {}",
+            self.seed, self.part, self.turn, self.calls
+        );
+        eprintln!("  {message}");
+        std::process::exit(1);
+    }
+
+    /// The pairs of command and number that should have been met, with counts.
+    pub fn pairs(&self) -> Vec<(Command, u32, u64)> {
+        let mut list = Vec::new();
+        for command in Command::ALL.into_iter().filter(|c| c.is_there()) {
+            for &number in command.allowed() {
+                let count = self.pairs[command as usize][number as usize];
+                list.push((command, number, count));
+            }
+        }
+        list
+    }
+}
+
+/// The block before the call, in words.
+fn describe(block: &[u8]) -> String {
+    let state = match model::Board::read(block) {
+        Some(_) => "good",
+        None => "not good",
+    };
+    let mut text = format!("  the block before the call was {state}");
+    if block.len() >= 80 {
+        let head: Vec<String> = block[..80]
+            .chunks(4)
+            .map(|word| word.iter().map(|b| format!("{b:02x}")).collect())
+            .collect();
+        text += &format!("\n  its first 80 bytes: {}", head.join(" "));
+    }
+    for (what, body) in [("memory", &MEMORY), ("taken", &TAKEN)] {
+        let list = read_recs(block, body);
+        text += &format!("\n  {what} records: {}", list.len());
+        for rec in list.iter().take(6) {
+            text += &format!(
+                "\n    base {:#x} size {:#x} flags {} node {}",
+                rec.base, rec.size, rec.flags, rec.node
+            );
+        }
+        if list.len() > 6 {
+            text += "\n    ...";
+        }
+    }
+    text
+}

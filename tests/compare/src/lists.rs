@@ -1,0 +1,357 @@
+//! Demand 3: lists of commands in one order and in another.
+
+use crate::blocks::{self, get_u64, read_recs, some_fill, Draft, Rec};
+use crate::call::{Call, Command};
+use crate::desk::Desk;
+use crate::numbers::{slip, Near};
+use crate::rng::Rng;
+use model::layout::*;
+use std::collections::{BTreeSet, HashMap};
+
+/// What was compared.
+#[derive(Default)]
+pub struct Tally {
+    pub lists: u64,
+    /// Runs that kept the condition and were held against the prediction.
+    pub predicted: u64,
+    /// Runs whose done commands broke the condition; nothing is claimed of them.
+    pub outside: u64,
+    /// Pairs of orders with the same commands done, compared byte by byte.
+    pub pairs: u64,
+    /// Of these, those in which some commands were refused.
+    pub pairs_with_refusals: u64,
+    /// Of these, those in which some were refused because a table was full.
+    pub pairs_with_full_tables: u64,
+    /// Orders in which other commands were done; nothing is claimed of the pair.
+    pub other_done: u64,
+}
+
+/// The addresses a call covers, after the cut at the top.
+fn covers(call: &Call) -> (u128, u128) {
+    let (base, size) = match *call {
+        Call::Add { base, size, .. } | Call::Range { base, size, .. } => (base, size),
+        _ => unreachable!("not a listed command"),
+    };
+    let lo = u128::from(base);
+    (lo, (lo + u128::from(size)).min(TOP))
+}
+
+/// The command and, for add, its tag.
+fn kind(call: &Call) -> (Command, u32, u32) {
+    match *call {
+        Call::Add { flags, node, .. } => (Command::Add, flags, node),
+        _ => (call.command(), 0, 0),
+    }
+}
+
+/// The condition of demand 3 on the done commands.
+fn condition(done: &[Call]) -> bool {
+    done.iter().enumerate().all(|(i, a)| {
+        done[..i].iter().all(|b| {
+            let ((alo, ahi), (blo, bhi)) = (covers(a), covers(b));
+            a.command().on_taken() != b.command().on_taken()
+                || alo.max(blo) >= ahi.min(bhi)
+                || kind(a) == kind(b)
+        })
+    })
+}
+
+/// How one address stands at the end of a list, by the section on lists.
+fn stands(at_start: Option<(u32, u32)>, call: &Call) -> Option<(u32, u32)> {
+    match *call {
+        Call::Add { flags, node, .. } => at_start.or(Some((flags, node))),
+        Call::Range { command, .. } => match command {
+            Command::Remove | Command::Free => None,
+            Command::Mark => at_start.map(|(flags, node)| (flags | NO_MAP, node)),
+            Command::Unmark => at_start.map(|(flags, node)| (flags & !NO_MAP, node)),
+            Command::Reserve => Some((0, 0)),
+            _ => unreachable!("not a listed command"),
+        },
+        _ => unreachable!("not a listed command"),
+    }
+}
+
+/// The records of one table at the end, found between one edge and the next
+/// from the start and the done commands alone.
+fn predicted_table(start: &[Rec], done: &[Call]) -> Vec<Rec> {
+    let span = |r: &Rec| (u128::from(r.base), u128::from(r.base) + u128::from(r.size));
+    let mut points = BTreeSet::new();
+    for (lo, hi) in start.iter().map(span).chain(done.iter().map(covers)) {
+        if lo < hi {
+            points.insert(lo);
+            points.insert(hi);
+        }
+    }
+    let points: Vec<u128> = points.into_iter().collect();
+    let mut list: Vec<Rec> = Vec::new();
+    let mut first = 0;
+    for two in points.windows(2) {
+        let (lo, hi) = (two[0], two[1]);
+        // The records are in rising order: those that end at or below lo are past.
+        while first < start.len() && span(&start[first]).1 <= lo {
+            first += 1;
+        }
+        let at_start = start
+            .get(first)
+            .filter(|r| span(r).0 <= lo)
+            .map(|r| (r.flags, r.node));
+        let covering = done.iter().find(|call| {
+            let (from, to) = covers(call);
+            from <= lo && hi <= to
+        });
+        let state = match covering {
+            Some(call) => stands(at_start, call),
+            None => at_start,
+        };
+        let Some((flags, node)) = state else { continue };
+        let rec = Rec {
+            base: lo as u64,
+            size: (hi - lo) as u64,
+            flags,
+            node,
+        };
+        match list.last_mut() {
+            Some(last) if last.end() == rec.base && (last.flags, last.node) == (flags, node) => {
+                last.size += rec.size;
+            }
+            _ => list.push(rec),
+        }
+    }
+    list
+}
+
+/// The one good block that the section on lists says a list ends in; `None` if
+/// no block could hold it, so that not all of these can have been done.
+fn predicted(start: &[u8], done: &[Call]) -> Option<Vec<u8>> {
+    let (on_taken, on_memory): (Vec<Call>, Vec<Call>) =
+        done.iter().partition(|call| call.command().on_taken());
+    let draft = Draft {
+        memory: predicted_table(&read_recs(start, &MEMORY), &on_memory),
+        taken: predicted_table(&read_recs(start, &TAKEN), &on_taken),
+        limit: get_u64(start, LIMIT_AT),
+        direction: 0,
+    };
+    if draft.memory.len() > MEMORY.capacity || draft.taken.len() > TAKEN.capacity {
+        return None;
+    }
+    let mut bytes = draft.bytes();
+    bytes[40..56].copy_from_slice(&start[40..56]);
+    bytes[72..80].copy_from_slice(&start[72..80]);
+    Some(bytes)
+}
+
+fn counted(calls: &[Call]) -> HashMap<Call, usize> {
+    let mut counts = HashMap::new();
+    for call in calls {
+        *counts.entry(*call).or_insert(0) += 1;
+    }
+    counts
+}
+
+/// Runs a list; gives the block at the end and the done and refused calls.
+fn run_list(desk: &mut Desk, start: &[u8], list: &[Call]) -> (Vec<u8>, Vec<Call>, Vec<u32>) {
+    let mut block = start.to_vec();
+    let mut done = Vec::new();
+    let mut refused = Vec::new();
+    for call in list {
+        match desk.call(call, &mut block, &mut []) {
+            0 => done.push(*call),
+            number => refused.push(number),
+        }
+    }
+    (block, done, refused)
+}
+
+/// Disjoint ranges, each with one command and tag, on one table.
+fn regions(rng: &mut Rng, near: &Near, taken: bool, list: &mut Vec<Call>) {
+    let commands: Vec<Command> = Command::LISTED
+        .into_iter()
+        .filter(|c| c.on_taken() == taken && c.is_there())
+        .collect();
+    if commands.is_empty() {
+        return;
+    }
+    let want = 2 + rng.index(4);
+    let mut points = BTreeSet::new();
+    for _ in 0..want {
+        let x = near.address(rng);
+        points.insert(x);
+        if rng.one_in(3) {
+            // A small range beside an edge, which needs room in the table.
+            points.insert(x.saturating_add(1 + rng.below(4)));
+        }
+    }
+    let points: Vec<u64> = points.into_iter().collect();
+    // Every neighbouring pair of points may be a region; they may touch.
+    for two in points.windows(2) {
+        if rng.one_in(3) {
+            continue;
+        }
+        let (lo, hi) = (two[0], two[1]);
+        let command = rng.pick(&commands);
+        let flags = rng.pick(&[0, 0, NO_MAP]);
+        let node = rng.pick(&[0, 0, 1, 2, NODES - 1]);
+        for again in 0..rng.pick(&[1, 1, 1, 2, 3]) {
+            let (mut from, mut to) = (lo, hi);
+            if again > 0 || rng.one_in(4) {
+                from = lo + rng.below(hi - lo);
+                to = from + 1 + rng.below(hi - from);
+            }
+            let mut size = to - from;
+            if to == u64::MAX && rng.one_in(2) {
+                // The same range after the cut.
+                size = size.saturating_add(rng.any_size());
+            }
+            list.push(listed(command, from, size, flags, node));
+        }
+    }
+}
+
+fn listed(command: Command, base: u64, size: u64, flags: u32, node: u32) -> Call {
+    if command == Command::Add {
+        Call::Add {
+            base,
+            size,
+            flags,
+            node,
+        }
+    } else {
+        Call::Range {
+            command,
+            base,
+            size,
+        }
+    }
+}
+
+/// A list that mostly keeps the condition, with calls that are always or
+/// sometimes refused among the others.
+fn some_list(rng: &mut Rng, near: &Near, there: &[Command]) -> Vec<Call> {
+    let mut list = Vec::new();
+    regions(rng, near, false, &mut list);
+    regions(rng, near, true, &mut list);
+    // The same call again.
+    if rng.one_in(4) && !list.is_empty() {
+        let call = rng.pick(&list);
+        list.push(call);
+    }
+    for _ in 0..rng.index(3) {
+        let command = rng.pick(there);
+        let (base, size) = near.range(rng);
+        list.push(match rng.below(8) {
+            // Covers nothing.
+            0 | 1 => listed(command, base, 0, 0, 5),
+            2 => listed(command, u64::MAX, size, 0, 5),
+            // Always refused, whatever it lies over.
+            3..=5 if Command::Add.is_there() => listed(Command::Add, base, size, 1, 64),
+            // Refused only by a full table.
+            _ => listed(command, base, 1 + rng.below(3), 0, 6),
+        });
+    }
+    rng.shuffle(&mut list);
+    list
+}
+
+/// Runs lists until the desk has made `until` calls.
+pub fn run(desk: &mut Desk, until: u64) -> Tally {
+    let mut tally = Tally::default();
+    let there: Vec<Command> = Command::LISTED
+        .into_iter()
+        .filter(|c| c.is_there())
+        .collect();
+    if there.is_empty() {
+        return tally;
+    }
+    while desk.calls < until {
+        desk.turn += 1;
+        let mut rng = Rng::new(desk.seed, desk.part, desk.turn);
+        let rng = &mut rng;
+        let (most, most_taken) = (MEMORY.capacity, TAKEN.capacity);
+        let (m, t) = match rng.below(8) {
+            0..=2 => (rng.index(10), rng.index(10)),
+            3 => (most - rng.index(3), rng.index(4)),
+            4 => (rng.index(4), most_taken - rng.index(3)),
+            5 => (most, most_taken),
+            _ => (some_fill(rng, &MEMORY), some_fill(rng, &TAKEN)),
+        };
+        let start = blocks::good(rng, m, t).bytes();
+        let near = Near::to(&start);
+        let list = some_list(rng, &near, &there);
+        tally.lists += 1;
+
+        let (end, done, refused) = run_list(desk, &start, &list);
+        if !condition(&done) {
+            tally.outside += 1;
+            continue;
+        }
+        tally.predicted += 1;
+        if Some(&end) != predicted(&start, &done).as_ref() {
+            desk.fail(&format!(
+                "the list does not end as predicted:\n{}",
+                show(&list)
+            ));
+        }
+        let wanted = counted(&done);
+
+        for _ in 0..3 {
+            let mut other = list.clone();
+            rng.shuffle(&mut other);
+            if other == list {
+                continue;
+            }
+            let (other_end, other_done, _) = run_list(desk, &start, &other);
+            if condition(&other_done) {
+                tally.predicted += 1;
+                if Some(&other_end) != predicted(&start, &other_done).as_ref() {
+                    desk.fail(&format!(
+                        "the list does not end as predicted:\n{}",
+                        show(&other)
+                    ));
+                }
+            } else {
+                tally.outside += 1;
+            }
+            if counted(&other_done) != wanted {
+                tally.other_done += 1;
+                continue;
+            }
+            tally.pairs += 1;
+            if !refused.is_empty() {
+                tally.pairs_with_refusals += 1;
+            }
+            if refused.contains(&6) {
+                tally.pairs_with_full_tables += 1;
+            }
+            if other_end != end {
+                desk.fail(&format!(
+                    "two orders of one list end in different blocks:\n{}\nand\n{}",
+                    show(&list),
+                    show(&other)
+                ));
+            }
+            later_calls(desk, rng, end.clone(), other_end);
+        }
+    }
+    tally
+}
+
+/// The same calls on both blocks give the same answers and bytes.
+fn later_calls(desk: &mut Desk, rng: &mut Rng, mut one: Vec<u8>, mut two: Vec<u8>) {
+    let near = Near::to(&one);
+    for _ in 0..2 {
+        let command = rng.pick(&Command::ALL[1..]);
+        let call = near.call(rng, command, 3);
+        let mut slip_one = slip(rng, 3);
+        let mut slip_two = slip_one.clone();
+        let first = desk.call(&call, &mut one, &mut slip_one);
+        let second = desk.call(&call, &mut two, &mut slip_two);
+        if (first, &one, &slip_one) != (second, &two, &slip_two) {
+            desk.fail(&format!("equal blocks answer {} differently", call.text()));
+        }
+    }
+}
+
+fn show(list: &[Call]) -> String {
+    let lines: Vec<String> = list.iter().map(|c| format!("    {}", c.text())).collect();
+    lines.join("\n")
+}

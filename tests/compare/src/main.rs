@@ -1,0 +1,417 @@
+//! Calls the archive and the model on equal bytes and compares the number and
+//! every byte of block and slip. See README.md.
+
+mod archive;
+mod blocks;
+mod call;
+mod cases;
+mod desk;
+mod lists;
+mod numbers;
+mod rng;
+
+use blocks::Damage;
+use call::Command;
+use desk::Desk;
+use model::layout::*;
+use numbers::{slip, Near};
+use rng::Rng;
+
+/// One pair of orders is asked for in this many calls of the lists' part.
+const CALLS_PER_PAIR: u64 = 50;
+
+const PARTS: [&str; 7] = [
+    "cases", "lists", "lengths", "damage", "faults", "fills", "walks",
+];
+
+struct Options {
+    seed: u64,
+    calls: u64,
+    all: bool,
+    parts: Vec<String>,
+    without_model: bool,
+}
+
+impl Options {
+    fn whole(&self) -> bool {
+        self.parts.len() == PARTS.len() && !self.without_model
+    }
+
+    /// The calls for a part that gets this many of 100 in a whole run.
+    fn share(&self, percent: u64) -> u64 {
+        if self.whole() {
+            self.calls * percent / 100
+        } else {
+            self.calls / self.parts.len() as u64
+        }
+    }
+}
+
+fn options() -> Result<Options, String> {
+    let mut options = Options {
+        seed: 1,
+        calls: 1_000_000,
+        all: std::env::var_os("MEMBLOCK_ALL").is_some_and(|v| !v.is_empty() && v != "0"),
+        parts: PARTS.map(String::from).to_vec(),
+        without_model: false,
+    };
+    let mut args = std::env::args().skip(1);
+    while let Some(arg) = args.next() {
+        let mut value = || args.next().ok_or(format!("{arg} needs a value"));
+        let number = |text: String| text.parse().map_err(|_| format!("{text} is not a number"));
+        match arg.as_str() {
+            "--seed" => options.seed = number(value()?)?,
+            "--calls" => options.calls = number(value()?)?,
+            "--all" => options.all = true,
+            "--parts" => {
+                options.parts = value()?.split(',').map(String::from).collect();
+                options.parts.dedup();
+                if let Some(odd) = options.parts.iter().find(|p| !PARTS.contains(&p.as_str())) {
+                    return Err(format!("{odd} is no part; parts are {}", PARTS.join(",")));
+                }
+            }
+            "--without-model" => options.without_model = true,
+            _ => {
+                return Err(format!(
+                    "{arg}: use --seed N, --calls N, --all, --parts A,B, --without-model"
+                ))
+            }
+        }
+    }
+    Ok(options)
+}
+
+fn main() {
+    let options = options().unwrap_or_else(|message| stop(&message));
+    let there: Vec<Command> = Command::ALL.into_iter().filter(|c| c.is_there()).collect();
+    let missing: Vec<&str> = Command::ALL
+        .into_iter()
+        .filter(|c| !c.is_there())
+        .map(Command::name)
+        .collect();
+    println!(
+        "compare: seed {}, {} calls asked for, {} of 12 functions in the archive",
+        options.seed,
+        options.calls,
+        there.len()
+    );
+    if !missing.is_empty() {
+        println!("compare: not in the archive: {}", missing.join(" "));
+        if options.all {
+            stop("all 12 functions were asked for");
+        }
+    }
+    desk::watch();
+    let desk = &mut Desk::new(options.seed);
+    desk.without_model = options.without_model;
+    for part in PARTS {
+        if !options.parts.iter().any(|chosen| chosen == part) {
+            continue;
+        }
+        desk.part = part;
+        desk.turn = 0;
+        match part {
+            "cases" => {
+                let cases = cases::run(desk);
+                println!("cases: all {cases} of document 01, {} calls", desk.calls);
+            }
+            "lists" => lists(desk, options.share(18)),
+            "lengths" => lengths(desk, &there, options.share(4)),
+            "damage" => damage(desk, &there, options.share(14)),
+            "faults" => faults(desk, &there, options.share(8)),
+            "fills" => fills(desk, &there, options.share(26)),
+            _ => walks(desk, options.calls.saturating_sub(desk.calls)),
+        }
+    }
+    if !options.whole() {
+        println!(
+            "compare: {} calls, nothing found, but only in {}{}",
+            desk.calls,
+            options.parts.join(", "),
+            if options.without_model {
+                " without the model"
+            } else {
+                ""
+            }
+        );
+        return;
+    }
+    numbers_reached(desk);
+    println!("compare: {} calls, all equal", desk.calls);
+}
+
+/// Every number that document 01 allows a function was given by it.
+fn numbers_reached(desk: &Desk) {
+    let pairs = desk.pairs();
+    let never: Vec<String> = pairs
+        .iter()
+        .filter(|(_, _, count)| *count == 0)
+        .map(|(command, number, _)| format!("{} {number}", command.name()))
+        .collect();
+    if !never.is_empty() {
+        stop(&format!("never reached: {}", never.join(", ")));
+    }
+    for command in Command::ALL.into_iter().filter(|c| c.is_there()) {
+        let counts: Vec<String> = pairs
+            .iter()
+            .filter(|pair| pair.0 == command)
+            .map(|(_, number, count)| format!("{count} x {number}"))
+            .collect();
+        println!("numbers: {} gave {}", command.name(), counts.join(", "));
+    }
+    let (command, number, count) = pairs
+        .iter()
+        .min_by_key(|(_, _, count)| *count)
+        .expect("one function at least");
+    println!(
+        "numbers: all {} pairs of command and number reached, the rarest {} {number} in {count} calls",
+        pairs.len(),
+        command.name()
+    );
+}
+
+fn stop(message: &str) -> ! {
+    eprintln!("compare: {message}");
+    std::process::exit(1);
+}
+
+fn next_turn(desk: &mut Desk) -> Rng {
+    desk.turn += 1;
+    Rng::new(desk.seed, desk.part, desk.turn)
+}
+
+/// Lists of commands in more than one order.
+fn lists(desk: &mut Desk, calls: u64) {
+    if !Command::LISTED.into_iter().any(Command::is_there) {
+        println!("lists: none of the six commands is in the archive");
+        return;
+    }
+    let before = desk.calls;
+    let tally = lists::run(desk, before + calls);
+    println!(
+        "lists: {} calls, {} lists, {} runs as predicted, {} pairs of orders equal \
+         ({} with refusals, {} with full tables), {} orders with other commands done, \
+         {} runs outside the condition",
+        desk.calls - before,
+        tally.lists,
+        tally.predicted,
+        tally.pairs,
+        tally.pairs_with_refusals,
+        tally.pairs_with_full_tables,
+        tally.other_done,
+        tally.outside,
+    );
+    let floor = calls / CALLS_PER_PAIR;
+    let mut floors = vec![("pairs of orders", tally.pairs, floor)];
+    if Command::LISTED.into_iter().all(Command::is_there) {
+        floors.push(("pairs with refusals", tally.pairs_with_refusals, floor / 10));
+        floors.push((
+            "pairs with full tables",
+            tally.pairs_with_full_tables,
+            floor / 20,
+        ));
+    }
+    for (what, count, floor) in floors {
+        if count < floor {
+            stop(&format!(
+                "only {count} {what} were compared, at least {floor} asked for"
+            ));
+        }
+    }
+}
+
+/// Blocks and slips of other lengths.
+fn lengths(desk: &mut Desk, there: &[Command], calls: u64) {
+    let before = desk.calls;
+    while desk.calls < before + calls {
+        let mut rng = next_turn(desk);
+        let rng = &mut rng;
+        let good = blocks::some_good(rng).bytes();
+        let near = Near::to(&good);
+        for &command in there {
+            let len = match rng.below(4) {
+                0 => rng.pick(&[0, 1, 79, 80, BLOCK_LEN - 1, BLOCK_LEN + 1]),
+                1 => rng.pick(&[
+                    81,
+                    TAKEN.offset - 1,
+                    TAKEN.offset,
+                    BLOCK_LEN - RECORD_LEN,
+                    BLOCK_LEN - 8,
+                    BLOCK_LEN + RECORD_LEN,
+                    2 * BLOCK_LEN,
+                ]),
+                2 => rng.index(BLOCK_LEN),
+                _ => rng.index(3 * BLOCK_LEN),
+            };
+            let mut block = good.clone();
+            let filler = rng.pick(&[0, 0xFF]);
+            block.resize(len, filler);
+            let call = near.call(rng, command, 20);
+            let mut slip = slip(rng, 25);
+            desk.call(&call, &mut block, &mut slip);
+        }
+    }
+    println!(
+        "lengths: {} calls on {} blocks",
+        desk.calls - before,
+        desk.turn
+    );
+}
+
+/// Each kind of damage, on each command.
+fn damage(desk: &mut Desk, there: &[Command], calls: u64) {
+    let before = desk.calls;
+    let kinds = Damage::all();
+    let mut refused = vec![0u64; kinds.len()];
+    while desk.calls < before + calls || refused.contains(&0) {
+        let mut rng = next_turn(desk);
+        let rng = &mut rng;
+        let which = desk.turn as usize % kinds.len();
+        let kind = kinds[which];
+        let draft = blocks::some_good(rng);
+        let bytes = kind.done_to(rng, draft);
+        let near = Near::to(&bytes);
+        let good = model::Board::read(&bytes).is_some();
+        if good && kind.certain() {
+            desk.fail(&format!(
+                "the model takes a block damaged by {kind:?} for good"
+            ));
+        }
+        if !good {
+            refused[which] += 1;
+        }
+        for &command in there {
+            let call = near.call(rng, command, 10);
+            let mut slip = slip(rng, 5);
+            desk.call(&call, &mut bytes.clone(), &mut slip);
+        }
+    }
+    println!(
+        "damage: {} calls on {} blocks, {} kinds of damage, each met {} times at least",
+        desk.calls - before,
+        desk.turn,
+        kinds.len(),
+        refused.iter().min().expect("there are kinds"),
+    );
+}
+
+/// Several things wrong at once, to see which number comes first.
+fn faults(desk: &mut Desk, there: &[Command], calls: u64) {
+    let before = desk.calls;
+    let kinds = Damage::all();
+    while desk.calls < before + calls {
+        let mut rng = next_turn(desk);
+        let rng = &mut rng;
+        let draft = blocks::some_good(rng);
+        let bytes = if rng.one_in(5) {
+            rng.pick(&kinds).done_to(rng, draft)
+        } else {
+            draft.bytes()
+        };
+        let near = Near::to(&bytes);
+        for &command in there {
+            let call = near.call(rng, command, 35);
+            let mut slip = slip(rng, 20);
+            desk.call(&call, &mut bytes.clone(), &mut slip);
+        }
+    }
+    println!(
+        "faults: {} calls on {} blocks",
+        desk.calls - before,
+        desk.turn
+    );
+}
+
+/// Every command on good blocks of every fill.
+fn fills(desk: &mut Desk, there: &[Command], calls: u64) {
+    let before = desk.calls;
+    let mut met = [vec![0u64; MEMORY.capacity + 1], vec![0; TAKEN.capacity + 1]];
+    while desk.calls < before + calls || met.iter().flatten().any(|&n| n == 0) {
+        let mut rng = next_turn(desk);
+        let rng = &mut rng;
+        // Both tables go through all fills, at different paces.
+        let turn = desk.turn as usize;
+        let (m, t) = match turn % 4 {
+            0 => (turn / 4 % met[0].len(), blocks::some_fill(rng, &TAKEN)),
+            1 => (blocks::some_fill(rng, &MEMORY), turn / 4 % met[1].len()),
+            _ => (
+                blocks::some_fill(rng, &MEMORY),
+                blocks::some_fill(rng, &TAKEN),
+            ),
+        };
+        let bytes = blocks::good(rng, m, t).bytes();
+        if model::Board::read(&bytes).is_none() {
+            desk.fail("the model takes a good block for a bad one");
+        }
+        met[0][m] += 1;
+        met[1][t] += 1;
+        let near = Near::to(&bytes);
+        for &command in there {
+            // Fresh and set do not look at the fill; searches have most to try.
+            let times = match command {
+                Command::Fresh | Command::Set => 1,
+                Command::NextFree | Command::Find | Command::Allocate => 4,
+                _ => 2,
+            };
+            for _ in 0..times {
+                let call = near.call(rng, command, 2);
+                let mut slip = slip(rng, 2);
+                desk.call(&call, &mut bytes.clone(), &mut slip);
+            }
+        }
+    }
+    let fewest = met.iter().flatten().min().expect("there are fills");
+    println!(
+        "fills: {} calls on {} good blocks, memory counts 0 to {} and taken counts 0 to {} \
+         each met {fewest} times at least",
+        desk.calls - before,
+        desk.turn,
+        MEMORY.capacity,
+        TAKEN.capacity,
+    );
+}
+
+/// Calls in a row, each on the block that the one before left.
+fn walks(desk: &mut Desk, calls: u64) {
+    let before = desk.calls;
+    let there: Vec<Command> = Command::ALL.into_iter().filter(|c| c.is_there()).collect();
+    while desk.calls < before + calls {
+        let mut rng = next_turn(desk);
+        let rng = &mut rng;
+        let mut block = if rng.one_in(3) {
+            let mut block = rng.bytes(BLOCK_LEN);
+            desk.call(&call::Call::Fresh, &mut block, &mut []);
+            block
+        } else {
+            blocks::some_good(rng).bytes()
+        };
+        let mut near = Near::to(&block);
+        for _ in 0..60 {
+            let command = if rng.percent(70) {
+                rng.pick(&there)
+            } else {
+                rng.pick(&Command::ALL)
+            };
+            let call = near.call(rng, command, 3);
+            let mut slip = slip(rng, 2);
+            let mut next = block.clone();
+            desk.call(&call, &mut next, &mut slip);
+            // Fresh and coarse trims would end most walks: try them on a copy.
+            let keep = match call {
+                call::Call::Fresh => rng.one_in(20),
+                call::Call::Trim { alignment } => alignment <= 4096 || rng.one_in(8),
+                call::Call::Range { size, .. } => size < 1 << 62 || rng.one_in(4),
+                _ => true,
+            };
+            if keep && next != block {
+                block = next;
+                near = Near::to(&block);
+            }
+        }
+    }
+    println!(
+        "walks: {} calls in {} walks",
+        desk.calls - before,
+        desk.turn
+    );
+}

@@ -1,0 +1,276 @@
+//! Numbers for calls, most of them near something the block holds.
+
+use crate::blocks::read_recs;
+use crate::call::{Call, Command};
+use crate::rng::Rng;
+use model::layout::*;
+use model::{Board, Run, Wish};
+
+const SPECIAL: [u64; 18] = [
+    0,
+    1,
+    2,
+    4095,
+    4096,
+    4097,
+    0x10000,
+    (1 << 32) - 1,
+    1 << 32,
+    (1 << 63) - 1,
+    1 << 63,
+    (1 << 63) + 1,
+    u64::MAX - 4096,
+    u64::MAX - 4095,
+    u64::MAX - 4094,
+    u64::MAX - 2,
+    u64::MAX - 1,
+    u64::MAX,
+];
+
+/// What is known of the block that the next call gets.
+pub struct Near {
+    edges: Vec<u64>,
+    runs: Vec<Run>,
+    nodes: Vec<u32>,
+}
+
+impl Near {
+    pub fn to(block: &[u8]) -> Near {
+        let mut edges = Vec::new();
+        let mut nodes = Vec::new();
+        for body in [&MEMORY, &TAKEN] {
+            for rec in read_recs(block, body) {
+                edges.push(rec.base);
+                edges.push(rec.end());
+                if nodes.len() < 16 {
+                    nodes.push(rec.node);
+                }
+            }
+        }
+        let runs = Board::read(block).map_or(Vec::new(), |board| board.free_runs());
+        Near { edges, runs, nodes }
+    }
+
+    /// An address: an edge or one beside it, a special number, or any.
+    pub fn address(&self, rng: &mut Rng) -> u64 {
+        let edge = |rng: &mut Rng| match self.edges.len() {
+            0 => 0x10000 * rng.below(16),
+            n => self.edges[rng.index(n)],
+        };
+        match rng.below(20) {
+            0..=5 => edge(rng),
+            6..=8 => edge(rng).wrapping_add(1),
+            9..=11 => edge(rng).wrapping_sub(1),
+            12 | 13 => {
+                // Between two edges.
+                let (a, b) = (edge(rng), edge(rng));
+                a.min(b)
+                    .wrapping_add(rng.below(a.abs_diff(b).saturating_add(1)))
+            }
+            14 => edge(rng).wrapping_add(rng.below(0x2000)),
+            15 => 0x1000 * rng.below(64),
+            16 | 17 => rng.pick(&SPECIAL),
+            _ => rng.any_size(),
+        }
+    }
+
+    /// A base and a size for a table command.
+    pub fn range(&self, rng: &mut Rng) -> (u64, u64) {
+        let base = self.address(rng);
+        let size = match rng.below(20) {
+            0 => 0,
+            1..=10 => {
+                // Up to another address.
+                let end = self.address(rng);
+                if end >= base {
+                    end - base
+                } else {
+                    return (end, base - end);
+                }
+            }
+            11..=14 => 1 + rng.below(4),
+            15 => 1 << rng.below(20),
+            16 => rng.pick(&SPECIAL),
+            17 => (u64::MAX - base).wrapping_add(rng.below(3)),
+            18 => u64::MAX - rng.below(3),
+            _ => rng.any_size(),
+        };
+        (base, size)
+    }
+
+    pub fn alignment(&self, rng: &mut Rng, faults: u64) -> u64 {
+        if rng.percent(faults) {
+            return match rng.below(4) {
+                0 => 0,
+                1 => rng.pick(&[3, 5, 6, 7, 12, 4095, 4097, 0x3000]),
+                2 => rng.pick(&[(1 << 63) + 1, 3 << 62, u64::MAX]),
+                _ => 1 << rng.below(63) | 1 << 63,
+            };
+        }
+        match rng.below(10) {
+            0..=3 => 1,
+            4..=7 => 1 << rng.below(14),
+            _ => 1 << rng.below(64),
+        }
+    }
+
+    pub fn search_node(&self, rng: &mut Rng, faults: u64) -> u32 {
+        if rng.percent(faults) {
+            return match rng.below(3) {
+                0 => NODES,
+                1 => ANY_NODE - 1,
+                _ => NODES + rng.below(u64::from(ANY_NODE - NODES)) as u32,
+            };
+        }
+        match rng.below(10) {
+            0 => rng.below(NODES.into()) as u32,
+            1..=3 if !self.nodes.is_empty() => rng.pick(&self.nodes).min(NODES - 1),
+            4 => rng.pick(&[0, 1, NODES - 1]),
+            _ => ANY_NODE,
+        }
+    }
+
+    fn tag(&self, rng: &mut Rng, faults: u64) -> (u32, u32) {
+        let flags = if rng.percent(faults) {
+            rng.pick(&[1, 2, 3, 5, 6, 7, 8, 12, 1 << 16, 1 << 31, u32::MAX])
+        } else {
+            rng.pick(&[0, 0, NO_MAP])
+        };
+        let node = if rng.percent(faults) {
+            rng.pick(&[NODES, NODES + 1, 256, 1 << 16, 1 << 31, u32::MAX])
+        } else {
+            match rng.below(4) {
+                0 => 0,
+                1 => 1,
+                2 if !self.nodes.is_empty() => rng.pick(&self.nodes).min(NODES - 1),
+                _ => rng.below(NODES.into()) as u32,
+            }
+        };
+        (flags, node)
+    }
+
+    fn wish(&self, rng: &mut Rng, faults: u64) -> Wish {
+        let alignment = self.alignment(rng, faults);
+        let step = u128::from(alignment.max(1));
+        // A size that just fits, or just does not, some free run as aligned.
+        let fitting = |rng: &mut Rng| -> u64 {
+            let run = self.runs[rng.index(self.runs.len())];
+            let lo = match rng.below(3) {
+                0 => run.lo,
+                _ => run.lo.div_ceil(step) * step,
+            };
+            let room = run.hi.saturating_sub(lo.max(LOWEST_START));
+            let room = u64::try_from(room).unwrap_or(u64::MAX);
+            match rng.below(6) {
+                0 => room.saturating_add(1),
+                1 => room.saturating_sub(1),
+                2 => room / 2,
+                3 => 1 + rng.below(room.max(1)),
+                _ => room,
+            }
+        };
+        let size = if rng.percent(faults) {
+            0
+        } else {
+            match rng.below(12) {
+                0..=4 if !self.runs.is_empty() => fitting(rng).max(1),
+                5..=7 => 1 + rng.below(8),
+                8 | 9 => 1 << rng.below(16),
+                10 => rng.pick(&SPECIAL).max(1),
+                _ => rng.any_size().max(1),
+            }
+        };
+        let start = match rng.below(10) {
+            0..=5 => 0,
+            6 => rng.pick(&[4095, 4096, 4097]),
+            _ => self.address(rng),
+        };
+        let end = match rng.below(10) {
+            0..=4 => 0,
+            5 => u64::MAX,
+            6 => start
+                .wrapping_add(size)
+                .wrapping_add(rng.below(3))
+                .wrapping_sub(1),
+            _ => self.address(rng),
+        };
+        Wish {
+            size,
+            alignment,
+            start,
+            end,
+            node: self.search_node(rng, faults),
+        }
+    }
+
+    /// A call with each checked number at fault in `faults` of 100 calls.
+    pub fn call(&self, rng: &mut Rng, command: Command, faults: u64) -> Call {
+        match command {
+            Command::Fresh => Call::Fresh,
+            Command::Set => Call::Set {
+                limit: match rng.below(3) {
+                    0 => u64::MAX,
+                    _ => self.address(rng),
+                },
+                direction: if rng.percent(faults) {
+                    rng.pick(&[2, 3, 256, 1 << 31, u32::MAX])
+                } else {
+                    rng.below(2) as u32
+                },
+            },
+            Command::Add => {
+                let (base, size) = self.range(rng);
+                let (flags, node) = self.tag(rng, faults);
+                Call::Add {
+                    base,
+                    size,
+                    flags,
+                    node,
+                }
+            }
+            Command::Trim => Call::Trim {
+                alignment: self.alignment(rng, faults),
+            },
+            Command::NextFree => Call::NextFree {
+                from: match rng.below(4) {
+                    0 => 0,
+                    _ => self.address(rng),
+                },
+                node: self.search_node(rng, faults),
+            },
+            Command::Find => Call::Find(self.wish(rng, faults)),
+            Command::Allocate => Call::Allocate(self.wish(rng, faults)),
+            _ => {
+                let (base, size) = self.range(rng);
+                Call::Range {
+                    command,
+                    base,
+                    size,
+                }
+            }
+        }
+    }
+}
+
+/// A slip with any content, in `faults` of 100 cases of another length.
+pub fn slip(rng: &mut Rng, faults: u64) -> Vec<u8> {
+    let len = if rng.percent(faults) {
+        match rng.below(3) {
+            0 => rng.pick(&[0, 15, 17]),
+            1 => rng.pick(&[1, 8, 14, 24, 32]),
+            _ => loop {
+                let len = rng.index(80);
+                if len != SLIP_LEN {
+                    break len;
+                }
+            },
+        }
+    } else {
+        SLIP_LEN
+    };
+    match rng.below(4) {
+        0 => vec![0; len],
+        1 => vec![0xFF; len],
+        _ => rng.bytes(len),
+    }
+}

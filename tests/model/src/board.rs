@@ -1,0 +1,218 @@
+//! What a block means, and the one way to write a meaning down.
+
+use crate::layout::*;
+use crate::line::Line;
+
+#[derive(Clone, Copy, Debug, PartialEq, Eq)]
+pub struct Tag {
+    pub no_map: bool,
+    pub node: u32,
+}
+
+impl Tag {
+    /// The tag that flags and a node say, if both are legal.
+    pub fn legal(flags: u32, node: u32) -> Option<Tag> {
+        let no_map = match flags {
+            0 => false,
+            NO_MAP => true,
+            _ => return None,
+        };
+        (node < NODES).then_some(Tag { no_map, node })
+    }
+
+    fn words(self) -> (u32, u32) {
+        (if self.no_map { NO_MAP } else { 0 }, self.node)
+    }
+}
+
+#[derive(Clone, Copy, Debug, PartialEq, Eq)]
+pub enum Direction {
+    TopDown,
+    BottomUp,
+}
+
+impl Direction {
+    pub fn named(word: u32) -> Option<Direction> {
+        match word {
+            0 => Some(Direction::TopDown),
+            1 => Some(Direction::BottomUp),
+            _ => None,
+        }
+    }
+
+    fn word(self) -> u32 {
+        match self {
+            Direction::TopDown => 0,
+            Direction::BottomUp => 1,
+        }
+    }
+}
+
+/// The meaning of a block: a state for each address in each table.
+#[derive(Clone, Debug, PartialEq, Eq)]
+pub struct Board {
+    /// The tag of each address present.
+    pub memory: Line<Option<Tag>>,
+    pub taken: Line<bool>,
+    pub limit: u64,
+    pub direction: Direction,
+}
+
+/// A longest range of untaken memory, not no-map, of one tag.
+#[derive(Clone, Copy, Debug, PartialEq, Eq)]
+pub struct Run {
+    pub lo: u128,
+    pub hi: u128,
+    pub node: u32,
+}
+
+/// The addresses a base and a size cover in a table, after the cut at the top.
+pub fn covered(base: u64, size: u64) -> (u128, u128) {
+    let lo = u128::from(base);
+    (lo, (lo + u128::from(size)).min(TOP))
+}
+
+fn word(bytes: &[u8], at: usize) -> u32 {
+    u32::from_le_bytes(bytes[at..at + 4].try_into().expect("4 bytes"))
+}
+
+fn long(bytes: &[u8], at: usize) -> u64 {
+    u64::from_le_bytes(bytes[at..at + 8].try_into().expect("8 bytes"))
+}
+
+fn put(bytes: &mut [u8], at: usize, value: &[u8]) {
+    bytes[at..at + value.len()].copy_from_slice(value);
+}
+
+impl Board {
+    pub fn fresh() -> Board {
+        Board {
+            memory: Line::all(None),
+            taken: Line::all(false),
+            limit: FRESH_LIMIT,
+            direction: Direction::TopDown,
+        }
+    }
+
+    /// The meaning of a good block, `None` for any other bytes.
+    ///
+    /// What is written is always a good block, so bytes are good exactly when
+    /// the meaning read from them is written as the same bytes again.
+    pub fn read(block: &[u8]) -> Option<Board> {
+        if block.len() != BLOCK_LEN {
+            return None;
+        }
+        let mut tags = Vec::new();
+        for (base, size, flags, node) in records(block, &MEMORY)? {
+            let (lo, hi) = covered(base, size);
+            tags.push((lo, hi, Some(Tag::legal(flags, node)?)));
+        }
+        let taken = records(block, &TAKEN)?.map(|(base, size, _, _)| {
+            let (lo, hi) = covered(base, size);
+            (lo, hi, true)
+        });
+        let board = Board {
+            memory: Line::drawn(None, tags.into_iter())?,
+            taken: Line::drawn(false, taken)?,
+            limit: long(block, LIMIT_AT),
+            direction: Direction::named(word(block, DIRECTION_AT))?,
+        };
+        (board.write().ok()? == block).then_some(board)
+    }
+
+    /// The one good block that says this, or the number for a table too long.
+    pub fn write(&self) -> Result<Vec<u8>, u32> {
+        let mut block = vec![0; BLOCK_LEN];
+        put(&mut block, 0, &EDITION.to_le_bytes());
+        put(&mut block, 4, &BODIES.to_le_bytes());
+        put(&mut block, LIMIT_AT, &self.limit.to_le_bytes());
+        put(
+            &mut block,
+            DIRECTION_AT,
+            &self.direction.word().to_le_bytes(),
+        );
+        let memory = self
+            .memory
+            .stretches()
+            .filter_map(|(lo, hi, tag)| Some((lo, hi, tag?.words())));
+        write_table(&mut block, &MEMORY, memory)?;
+        let taken = self
+            .taken
+            .stretches()
+            .filter_map(|(lo, hi, taken)| taken.then_some((lo, hi, (0, 0))));
+        write_table(&mut block, &TAKEN, taken)?;
+        Ok(block)
+    }
+
+    /// All free runs, in rising order.
+    pub fn free_runs(&self) -> Vec<Run> {
+        self.memory
+            .join(&self.taken, |tag, taken| {
+                tag.filter(|tag| !taken && !tag.no_map)
+            })
+            .stretches()
+            .filter_map(|(lo, hi, tag)| {
+                tag.map(|tag| Run {
+                    lo,
+                    hi,
+                    node: tag.node,
+                })
+            })
+            .collect()
+    }
+}
+
+/// The records a table's count names, as lent; `None` if they cannot be there.
+fn records<'a>(
+    block: &'a [u8],
+    body: &'a Body,
+) -> Option<impl Iterator<Item = (u64, u64, u32, u32)> + 'a> {
+    let count = word(block, body.entry + 8) as usize;
+    (count <= body.capacity).then(|| {
+        (0..count).map(|i| {
+            let at = body.offset + i * RECORD_LEN;
+            (
+                long(block, at),
+                long(block, at + 8),
+                word(block, at + 16),
+                word(block, at + 20),
+            )
+        })
+    })
+}
+
+fn write_table(
+    block: &mut [u8],
+    body: &Body,
+    stretches: impl Iterator<Item = (u128, u128, (u32, u32))>,
+) -> Result<(), u32> {
+    let mut count = 0;
+    let mut total = 0;
+    for (lo, hi, (flags, node)) in stretches {
+        if count == body.capacity {
+            return Err(number::TABLE_FULL);
+        }
+        let at = body.offset + count * RECORD_LEN;
+        put(block, at, &narrow(lo).to_le_bytes());
+        put(block, at + 8, &narrow(hi - lo).to_le_bytes());
+        put(block, at + 16, &flags.to_le_bytes());
+        put(block, at + 20, &node.to_le_bytes());
+        count += 1;
+        total += hi - lo;
+    }
+    put(block, body.entry, &body.kind.to_le_bytes());
+    put(block, body.entry + 4, &(body.offset as u32).to_le_bytes());
+    put(block, body.entry + 8, &(count as u32).to_le_bytes());
+    put(
+        block,
+        body.entry + 12,
+        &(body.capacity as u32).to_le_bytes(),
+    );
+    put(block, body.total_at, &narrow(total).to_le_bytes());
+    Ok(())
+}
+
+/// A number that is known to fit 64 bits.
+pub(crate) fn narrow(x: u128) -> u64 {
+    u64::try_from(x).expect("below 2^64")
+}

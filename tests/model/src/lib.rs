@@ -1,0 +1,239 @@
+//! A second program for the memory tables of document 01, written from that
+//! page alone, to be compared with the library call by call.
+//!
+//! It shares no idea with a program that walks tables of records: a table is a
+//! map from boundary points to states, a search looks at whole free runs and
+//! takes the least or the greatest of what they offer, all sums are in `u128`,
+//! and a block is good when writing down what it says gives the same bytes.
+
+pub mod layout;
+
+mod board;
+mod line;
+
+pub use board::{covered, Board, Direction, Run, Tag};
+pub use line::Line;
+
+use board::narrow;
+use layout::number::*;
+use layout::*;
+
+/// What find and allocate are asked for.
+#[derive(Clone, Copy, Debug, PartialEq, Eq, Hash)]
+pub struct Wish {
+    pub size: u64,
+    pub alignment: u64,
+    pub start: u64,
+    pub end: u64,
+    pub node: u32,
+}
+
+pub fn fresh(block: &mut [u8]) -> u32 {
+    if block.len() != BLOCK_LEN {
+        return NOT_GOOD;
+    }
+    settle(block, Ok(Board::fresh()))
+}
+
+pub fn set(block: &mut [u8], limit: u64, direction: u32) -> u32 {
+    let after = good(block).and_then(|mut board| {
+        board.limit = limit;
+        board.direction = Direction::named(direction).ok_or(BAD_DIRECTION)?;
+        Ok(board)
+    });
+    settle(block, after)
+}
+
+pub fn add(block: &mut [u8], base: u64, size: u64, flags: u32, node: u32) -> u32 {
+    let after = good(block).and_then(|mut board| {
+        let tag = Tag::legal(flags, node).ok_or(BAD_TAG)?;
+        let (lo, hi) = covered(base, size);
+        board.memory.paint(lo, hi, |old| old.or(Some(tag)));
+        Ok(board)
+    });
+    settle(block, after)
+}
+
+pub fn remove(block: &mut [u8], base: u64, size: u64) -> u32 {
+    change_memory(block, base, size, |_| None)
+}
+
+pub fn mark(block: &mut [u8], base: u64, size: u64) -> u32 {
+    change_memory(block, base, size, |tag| {
+        Some(Tag {
+            no_map: true,
+            ..tag
+        })
+    })
+}
+
+pub fn unmark(block: &mut [u8], base: u64, size: u64) -> u32 {
+    change_memory(block, base, size, |tag| {
+        Some(Tag {
+            no_map: false,
+            ..tag
+        })
+    })
+}
+
+pub fn reserve(block: &mut [u8], base: u64, size: u64) -> u32 {
+    change_taken(block, base, size, true)
+}
+
+pub fn free(block: &mut [u8], base: u64, size: u64) -> u32 {
+    change_taken(block, base, size, false)
+}
+
+pub fn trim(block: &mut [u8], alignment: u64) -> u32 {
+    let after = good(block).and_then(|mut board| {
+        let step = step(alignment)?;
+        let mut trimmed = Line::all(None);
+        for (lo, hi, tag) in board.memory.stretches() {
+            if tag.is_some() {
+                trimmed.paint(lo.div_ceil(step) * step, hi / step * step, |_| tag);
+            }
+        }
+        board.memory = trimmed;
+        Ok(board)
+    });
+    settle(block, after)
+}
+
+pub fn next_free(block: &[u8], from: u64, node: u32, slip: &mut [u8]) -> u32 {
+    if slip.len() != SLIP_LEN {
+        return BAD_SLIP;
+    }
+    let from = u128::from(from);
+    let answer = good(block).and_then(|board| {
+        let wanted = asked_for(node)?;
+        board
+            .free_runs()
+            .into_iter()
+            .filter(|run| wanted(run) && run.hi > from)
+            .map(|run| (run.lo.max(from), run.hi))
+            .min()
+            .ok_or(NO_ADDRESS)
+    });
+    tell(slip, answer)
+}
+
+pub fn find(block: &[u8], wish: &Wish, slip: &mut [u8]) -> u32 {
+    if slip.len() != SLIP_LEN {
+        return BAD_SLIP;
+    }
+    let answer = good(block).and_then(|board| place(&board, wish));
+    tell(slip, answer)
+}
+
+pub fn allocate(block: &mut [u8], wish: &Wish, slip: &mut [u8]) -> u32 {
+    if slip.len() != SLIP_LEN {
+        return BAD_SLIP;
+    }
+    let answer = good(block).and_then(|mut board| {
+        let (lo, hi) = place(&board, wish)?;
+        board.taken.paint(lo, hi, |_| true);
+        block.copy_from_slice(&board.write()?);
+        Ok((lo, hi))
+    });
+    tell(slip, answer)
+}
+
+/// The address and its end that the rules of find fix, or the refusal.
+fn place(board: &Board, wish: &Wish) -> Result<(u128, u128), u32> {
+    let wanted = asked_for(wish.node)?;
+    let step = step(wish.alignment)?;
+    if wish.size == 0 {
+        return Err(SIZE_ZERO);
+    }
+    let size = u128::from(wish.size);
+    let end = match wish.end {
+        0 => board.limit,
+        named => named,
+    };
+    let start = u128::from(wish.start).max(LOWEST_START);
+    let end = u128::from(end).max(start);
+
+    let offers = board
+        .free_runs()
+        .into_iter()
+        .filter(wanted)
+        .filter_map(|run| {
+            // The multiples k * step with lo <= k * step and k * step + size <= hi.
+            let lo = run.lo.max(start);
+            let hi = run.hi.min(end);
+            let least = lo.div_ceil(step);
+            let greatest = hi.checked_sub(size)? / step;
+            (least <= greatest).then_some((least * step, greatest * step))
+        });
+    let chosen = match board.direction {
+        Direction::BottomUp => offers.map(|(lowest, _)| lowest).min(),
+        Direction::TopDown => offers.map(|(_, highest)| highest).max(),
+    };
+    chosen.map(|a| (a, a + size)).ok_or(NO_ADDRESS)
+}
+
+fn good(block: &[u8]) -> Result<Board, u32> {
+    Board::read(block).ok_or(NOT_GOOD)
+}
+
+fn asked_for(node: u32) -> Result<impl Fn(&Run) -> bool, u32> {
+    if node >= NODES && node != ANY_NODE {
+        return Err(BAD_TAG);
+    }
+    Ok(move |run: &Run| node == ANY_NODE || node == run.node)
+}
+
+fn step(alignment: u64) -> Result<u128, u32> {
+    if alignment.count_ones() == 1 {
+        Ok(u128::from(alignment))
+    } else {
+        Err(BAD_ALIGNMENT)
+    }
+}
+
+fn change_memory(
+    block: &mut [u8],
+    base: u64,
+    size: u64,
+    change: impl Fn(Tag) -> Option<Tag>,
+) -> u32 {
+    let after = good(block).map(|mut board| {
+        let (lo, hi) = covered(base, size);
+        board.memory.paint(lo, hi, |old| old.and_then(&change));
+        board
+    });
+    settle(block, after)
+}
+
+fn change_taken(block: &mut [u8], base: u64, size: u64, taken: bool) -> u32 {
+    let after = good(block).map(|mut board| {
+        let (lo, hi) = covered(base, size);
+        board.taken.paint(lo, hi, |_| taken);
+        board
+    });
+    settle(block, after)
+}
+
+/// Writes the block of a finished command, or leaves it as lent.
+fn settle(block: &mut [u8], after: Result<Board, u32>) -> u32 {
+    match after.and_then(|board| board.write()) {
+        Ok(bytes) => {
+            block.copy_from_slice(&bytes);
+            DONE
+        }
+        Err(number) => number,
+    }
+}
+
+/// Writes a 16-byte slip: the two numbers, or all zero on a refusal.
+fn tell(slip: &mut [u8], answer: Result<(u128, u128), u32>) -> u32 {
+    slip.fill(0);
+    match answer {
+        Ok((first, second)) => {
+            slip[..8].copy_from_slice(&narrow(first).to_le_bytes());
+            slip[8..].copy_from_slice(&narrow(second).to_le_bytes());
+            DONE
+        }
+        Err(number) => number,
+    }
+}

@@ -1,0 +1,586 @@
+//! The second program against a third that knows single addresses only.
+//!
+//! A toy is a window of 420 addresses somewhere in the 64-bit space, each with
+//! its own state. Every command is done address by address, eligibility is
+//! tried address by address straight from the definition, and the block is put
+//! together here with code of its own.
+
+use model::Wish;
+
+const WINDOW: usize = 420;
+const LAST: u128 = u64::MAX as u128;
+const ANY: u32 = u32::MAX;
+
+struct Rng(u64);
+
+impl Rng {
+    fn next(&mut self) -> u64 {
+        self.0 = self.0.wrapping_add(0x9E37_79B9_7F4A_7C15);
+        let mut z = self.0;
+        z = (z ^ (z >> 30)).wrapping_mul(0xBF58_476D_1CE4_E5B9);
+        z = (z ^ (z >> 27)).wrapping_mul(0x94D0_49BB_1331_11EB);
+        z ^ (z >> 31)
+    }
+
+    fn below(&mut self, n: u64) -> u64 {
+        self.next() % n
+    }
+
+    fn one_in(&mut self, n: u64) -> bool {
+        self.below(n) == 0
+    }
+}
+
+type Tag = (u32, u32);
+
+#[derive(Clone)]
+struct Toy {
+    origin: u128,
+    memory: Vec<Option<Tag>>,
+    taken: Vec<bool>,
+    limit: u64,
+    direction: u32,
+}
+
+impl Toy {
+    fn new(origin: u128, width: usize) -> Toy {
+        Toy {
+            origin,
+            memory: vec![None; width],
+            taken: vec![false; width],
+            limit: u64::MAX,
+            direction: 0,
+        }
+    }
+
+    fn address(&self, i: usize) -> u128 {
+        self.origin + i as u128
+    }
+
+    /// The places of the window that a table range covers.
+    fn places(&self, base: u64, size: u64) -> Vec<usize> {
+        (0..self.memory.len())
+            .filter(|&i| {
+                let x = self.address(i);
+                x >= base.into() && x < u128::from(base) + u128::from(size) && x < LAST
+            })
+            .collect()
+    }
+
+    /// Longest groups of neighbours with the same state, as (first, past, state).
+    fn groups<S: Copy + PartialEq>(states: &[Option<S>]) -> Vec<(usize, usize, S)> {
+        let mut groups: Vec<(usize, usize, S)> = Vec::new();
+        for (i, state) in states.iter().enumerate() {
+            let Some(state) = *state else { continue };
+            match groups.last_mut() {
+                Some((_, past, same)) if *past == i && *same == state => *past = i + 1,
+                _ => groups.push((i, i + 1, state)),
+            }
+        }
+        groups
+    }
+
+    fn tables(&self) -> [Vec<(usize, usize, Tag)>; 2] {
+        let taken: Vec<_> = self.taken.iter().map(|t| t.then_some((0, 0))).collect();
+        [Toy::groups(&self.memory), Toy::groups(&taken)]
+    }
+
+    /// The block, or `None` if a table is too long.
+    fn block(&self) -> Option<Vec<u8>> {
+        let mut head: Vec<u8> = Vec::new();
+        let mut bodies: Vec<u8> = Vec::new();
+        let mut totals: Vec<u8> = Vec::new();
+        head.extend([1, 0, 0, 0, 2, 0, 0, 0]);
+        for (kind, groups) in [1u32, 2].into_iter().zip(self.tables()) {
+            if groups.len() > 128 {
+                return None;
+            }
+            let offset = 80 + (kind - 1) * 3072;
+            for word in [kind, offset, groups.len() as u32, 128] {
+                head.extend(word.to_le_bytes());
+            }
+            let mut total = 0u64;
+            let mut body: Vec<u8> = Vec::new();
+            for (first, past, (flags, node)) in groups {
+                let size = (past - first) as u64;
+                total += size;
+                body.extend((self.address(first) as u64).to_le_bytes());
+                body.extend(size.to_le_bytes());
+                body.extend(flags.to_le_bytes());
+                body.extend(node.to_le_bytes());
+            }
+            body.resize(128 * 24, 0);
+            bodies.extend(body);
+            totals.extend(total.to_le_bytes());
+        }
+        head.extend(self.limit.to_le_bytes());
+        head.extend(self.direction.to_le_bytes());
+        head.extend([0; 4]);
+        head.extend(totals);
+        head.extend([0; 8]);
+        head.extend(bodies);
+        Some(head)
+    }
+
+    /// The tag of an address that is memory, untaken and not no-map.
+    fn free_tag(&self, x: u128) -> Option<Tag> {
+        let i = usize::try_from(x.checked_sub(self.origin)?).ok()?;
+        let tag = (*self.memory.get(i)?)?;
+        (!self.taken[i] && tag.0 == 0).then_some(tag)
+    }
+
+    fn eligible(&self, a: u128, wish: &Wish) -> bool {
+        let start = wish.start.max(4096);
+        let end = if wish.end == 0 { self.limit } else { wish.end }.max(start);
+        let size = u128::from(wish.size);
+        let Some(tag) = self.free_tag(a) else {
+            return false;
+        };
+        a.is_multiple_of(wish.alignment.into())
+            && a >= start.into()
+            && a + size <= end.into()
+            && (wish.node == ANY || wish.node == tag.1)
+            && size <= WINDOW as u128
+            && (a..a + size).all(|x| self.free_tag(x) == Some(tag))
+    }
+
+    fn find(&self, wish: &Wish) -> Result<(u64, u64), u32> {
+        if wish.node > 63 && wish.node != ANY {
+            return Err(2);
+        }
+        if !wish.alignment.is_power_of_two() {
+            return Err(3);
+        }
+        if wish.size == 0 {
+            return Err(4);
+        }
+        let mut fits = (0..self.memory.len())
+            .map(|i| self.address(i))
+            .filter(|&a| self.eligible(a, wish));
+        let a = if self.direction == 1 {
+            fits.next()
+        } else {
+            fits.next_back()
+        };
+        let a = a.ok_or(5u32)? as u64;
+        Ok((a, a + wish.size))
+    }
+
+    fn next_free(&self, from: u64, node: u32) -> Result<(u64, u64), u32> {
+        if node > 63 && node != ANY {
+            return Err(2);
+        }
+        let a = (0..self.memory.len())
+            .map(|i| self.address(i))
+            .find(|&a| {
+                a >= from.into()
+                    && self
+                        .free_tag(a)
+                        .is_some_and(|tag| node == ANY || node == tag.1)
+            })
+            .ok_or(5u32)?;
+        let mut end = a;
+        while self.free_tag(end) == self.free_tag(a) {
+            end += 1;
+        }
+        Ok((a as u64, end as u64))
+    }
+
+    /// An address stays when its whole aligned cell is inside its record.
+    fn trim(&mut self, alignment: u64) {
+        let cell = u128::from(alignment);
+        for (first, past, _) in Toy::groups(&self.memory) {
+            let (lo, hi) = (self.address(first), self.address(past));
+            for i in first..past {
+                let floor = self.address(i) / cell * cell;
+                if floor < lo || floor + cell > hi {
+                    self.memory[i] = None;
+                }
+            }
+        }
+    }
+}
+
+/// Takes a changed toy if it can be written, else 6.
+fn keep(toy: &mut Toy, next: Toy) -> u32 {
+    if next.block().is_none() {
+        return 6;
+    }
+    *toy = next;
+    0
+}
+
+fn some_number(rng: &mut Rng, toy: &Toy) -> u64 {
+    let width = toy.memory.len() as u64;
+    let near = toy.origin as u64;
+    match rng.below(20) {
+        0 => 0,
+        1 => u64::MAX,
+        2 => 4096,
+        _ => near.wrapping_add(rng.below(width + 8)).wrapping_sub(4),
+    }
+}
+
+fn some_wish(rng: &mut Rng, toy: &Toy) -> Wish {
+    Wish {
+        size: match rng.below(16) {
+            0 => 0,
+            1 => u64::MAX - rng.below(500),
+            2..=4 => 1 + rng.below(60),
+            5..=9 => 1 + rng.below(12),
+            _ => 1 + rng.below(3),
+        },
+        alignment: match rng.below(16) {
+            0 => rng.below(20),
+            1 => 1 << rng.below(64),
+            2..=8 => 1,
+            _ => 1 << rng.below(7),
+        },
+        start: match rng.below(3) {
+            0 => some_number(rng, toy),
+            _ => 0,
+        },
+        end: match rng.below(3) {
+            0 => some_number(rng, toy),
+            _ => 0,
+        },
+        node: some_node(rng),
+    }
+}
+
+fn some_node(rng: &mut Rng) -> u32 {
+    match rng.below(12) {
+        0 => 64,
+        1 => 63,
+        2..=5 => rng.below(3) as u32,
+        _ => ANY,
+    }
+}
+
+fn slip_of(answer: Result<(u64, u64), u32>) -> (u32, Vec<u8>) {
+    match answer {
+        Ok((a, b)) => (0, [a.to_le_bytes(), b.to_le_bytes()].concat()),
+        Err(number) => (number, vec![0; 16]),
+    }
+}
+
+/// `count` groups of one place with `gap` places between, some made wider by
+/// two, and some gaps too, so that there are insides to split.
+fn teeth(rng: &mut Rng, count: u64, gap: usize) -> Vec<(usize, usize)> {
+    let mut teeth = Vec::new();
+    let mut at = rng.below(4) as usize;
+    let mut spare = WINDOW - at - count as usize * (1 + gap);
+    for _ in 0..count {
+        let mut more = |odds| {
+            if spare >= 2 && rng.one_in(odds) {
+                spare -= 2;
+                2
+            } else {
+                0
+            }
+        };
+        let wide = 1 + more(4);
+        teeth.push((at, at + wide));
+        at += wide + gap + if gap > 0 { more(8) } else { 0 };
+    }
+    teeth
+}
+
+/// An empty toy, one of a few long records, or one whose tables are often full.
+fn start_toy(rng: &mut Rng, origin: u128) -> Toy {
+    let mut toy = Toy::new(origin, WINDOW);
+    toy.direction = rng.below(2) as u32;
+    let style = rng.below(8);
+    if style == 0 {
+        return toy;
+    }
+    if style < 4 {
+        for _ in 0..rng.below(8) {
+            let lo = rng.below(300);
+            let tag = [(0, 0), (0, 1), (4, 0)][rng.below(3) as usize];
+            for i in toy.places(origin as u64 + lo, rng.below(80)) {
+                toy.memory[i] = Some(tag);
+            }
+            let lo = rng.below(300);
+            for i in toy.places(origin as u64 + lo, rng.below(20)) {
+                toy.taken[i] = true;
+            }
+        }
+        return toy;
+    }
+    let mut fill = || match rng.below(3) {
+        0 => rng.below(129),
+        _ => 128 - rng.below(2),
+    };
+    let (m, t) = (fill(), fill());
+    let touching = rng.one_in(3);
+    let tags = [(0, 0), (4, 0), (0, 1), (4, 1)];
+    for (k, (lo, hi)) in teeth(rng, m, if touching { 0 } else { 1 })
+        .into_iter()
+        .enumerate()
+    {
+        // Neighbours that touch never have the same place in `tags`.
+        let tag = tags[(k % 2 + 2 * rng.below(2) as usize) % 4];
+        toy.memory[lo..hi].fill(Some(tag));
+    }
+    for (lo, hi) in teeth(rng, t, 1) {
+        toy.taken[lo..hi].fill(true);
+    }
+    // Nothing at or above the last address is ever in a table.
+    for i in 0..WINDOW {
+        if toy.address(i) >= LAST {
+            toy.memory[i] = None;
+            toy.taken[i] = false;
+        }
+    }
+    toy
+}
+
+/// The place after the first of some group of either table that has an inside.
+fn inner_place(rng: &mut Rng, toy: &Toy) -> u64 {
+    let mut groups = toy.tables().concat();
+    groups.retain(|(first, past, _)| past - first > 2);
+    if groups.is_empty() {
+        return 0;
+    }
+    let (first, _, _) = groups[rng.below(groups.len() as u64) as usize];
+    first as u64 + 1
+}
+
+fn walk(seed: u64, origin: u128, steps: usize, seen: &mut [[u64; 9]; 12]) {
+    let mut rng = Rng(seed);
+    let mut toy = start_toy(&mut rng, origin);
+    let mut block = toy.block().expect("at most 128 records");
+    assert!(model::Board::read(&block).is_some());
+    for step in 0..steps {
+        let at_top = origin + WINDOW as u128 > LAST;
+        let first = match rng.below(3) {
+            0 => inner_place(&mut rng, &toy),
+            _ => rng.below(WINDOW as u64),
+        };
+        let base = (origin as u64).saturating_add(first);
+        let room = WINDOW as u64 - first;
+        let size = match rng.below(10) {
+            0 => 0,
+            1 if at_top => u64::MAX - rng.below(9),
+            2 if at_top => room + rng.below(20),
+            3..=5 => rng.below(room + 1),
+            6 | 7 => 1,
+            _ => rng.below(room.min(3) + 1),
+        };
+        let mut slip: Vec<u8> = (0..16).map(|_| rng.next() as u8).collect();
+        let mut slip_wanted = slip.clone();
+        let mut next = toy.clone();
+        let before = (toy.clone(), block.clone());
+        let mut said = block.clone();
+        let command = rng.below(12) as usize;
+        let (got, wanted) = match command {
+            0 if rng.one_in(20) => {
+                next = Toy::new(origin, WINDOW);
+                toy = next;
+                (model::fresh(&mut said), 0)
+            }
+            0 | 1 => {
+                let limit = match rng.below(3) {
+                    0 => u64::MAX,
+                    _ => some_number(&mut rng, &toy),
+                };
+                let direction = rng.below(3) as u32;
+                let number = if direction > 1 {
+                    7
+                } else {
+                    toy.limit = limit;
+                    toy.direction = direction;
+                    0
+                };
+                (model::set(&mut said, limit, direction), number)
+            }
+            2 => {
+                let flags = [0, 0, 0, 0, 4, 4, 1, 8][rng.below(8) as usize];
+                let node = [0, 0, 1, 2, 63, 64][rng.below(6) as usize];
+                let number = if (flags != 0 && flags != 4) || node > 63 {
+                    2
+                } else {
+                    for i in toy.places(base, size) {
+                        next.memory[i] = next.memory[i].or(Some((flags, node)));
+                    }
+                    keep(&mut toy, next)
+                };
+                (model::add(&mut said, base, size, flags, node), number)
+            }
+            3 => {
+                for i in toy.places(base, size) {
+                    next.memory[i] = None;
+                }
+                (model::remove(&mut said, base, size), keep(&mut toy, next))
+            }
+            4 => {
+                for i in toy.places(base, size) {
+                    next.memory[i] = next.memory[i].map(|(_, node)| (4, node));
+                }
+                (model::mark(&mut said, base, size), keep(&mut toy, next))
+            }
+            5 => {
+                for i in toy.places(base, size) {
+                    next.memory[i] = next.memory[i].map(|(_, node)| (0, node));
+                }
+                (model::unmark(&mut said, base, size), keep(&mut toy, next))
+            }
+            6 => {
+                for i in toy.places(base, size) {
+                    next.taken[i] = true;
+                }
+                (model::reserve(&mut said, base, size), keep(&mut toy, next))
+            }
+            7 => {
+                for i in toy.places(base, size) {
+                    next.taken[i] = false;
+                }
+                (model::free(&mut said, base, size), keep(&mut toy, next))
+            }
+            8 => {
+                let alignment = match rng.below(8) {
+                    0 => 1 << rng.below(64),
+                    1 => rng.below(20),
+                    2 => 2,
+                    _ => 1,
+                };
+                let number = if alignment.is_power_of_two() {
+                    next.trim(alignment);
+                    keep(&mut toy, next)
+                } else {
+                    3
+                };
+                assert_ne!(number, 6);
+                (model::trim(&mut said, alignment), number)
+            }
+            9 => {
+                let from = some_number(&mut rng, &toy);
+                let node = some_node(&mut rng);
+                let (number, wanted) = slip_of(toy.next_free(from, node));
+                slip_wanted = wanted;
+                (model::next_free(&said, from, node, &mut slip), number)
+            }
+            10 => {
+                let wish = some_wish(&mut rng, &toy);
+                let (number, wanted) = slip_of(toy.find(&wish));
+                slip_wanted = wanted;
+                (model::find(&said, &wish, &mut slip), number)
+            }
+            _ => {
+                let wish = some_wish(&mut rng, &toy);
+                let answer = toy.find(&wish).and_then(|(a, end)| {
+                    for i in toy.places(a, wish.size) {
+                        next.taken[i] = true;
+                    }
+                    match keep(&mut toy, next) {
+                        0 => Ok((a, end)),
+                        number => Err(number),
+                    }
+                });
+                let (number, wanted) = slip_of(answer);
+                slip_wanted = wanted;
+                (model::allocate(&mut said, &wish, &mut slip), number)
+            }
+        };
+        assert_eq!(got, wanted, "seed {seed} step {step} command {command}");
+        if got != 0 {
+            assert_eq!(said, block, "seed {seed} step {step} command {command}");
+        }
+        block = toy.block().expect("kept toys fit");
+        assert!(said == block, "seed {seed} step {step} command {command}");
+        assert_eq!(slip, slip_wanted, "seed {seed} step {step}");
+        seen[command][got as usize] += 1;
+        // Mostly go on from the block before, so that full tables stay full.
+        if !rng.one_in(10) {
+            (toy, block) = before;
+        }
+    }
+}
+
+#[test]
+fn random_walks_address_by_address() {
+    let mut seen = [[0; 9]; 12];
+    for seed in 0..600 {
+        let origin = [
+            4096 - 40,
+            LAST - 400,
+            0,
+            4096 - 200,
+            (1 << 63) - 150,
+            1 << 40,
+        ][seed as usize % 6];
+        walk(seed, origin, 120, &mut seen);
+    }
+    // Every number these commands can give was met.
+    for (command, numbers) in [
+        (2, vec![0, 2, 6]),
+        (3, vec![0, 6]),
+        (4, vec![0, 6]),
+        (5, vec![0, 6]),
+        (6, vec![0, 6]),
+        (7, vec![0, 6]),
+        (8, vec![0, 3]),
+        (9, vec![0, 2, 5]),
+        (10, vec![0, 2, 3, 4, 5]),
+        (11, vec![0, 2, 3, 4, 5, 6]),
+    ] {
+        for number in numbers {
+            assert!(
+                seen[command][number] >= 10,
+                "command {command} gave {number} only {} times",
+                seen[command][number]
+            );
+        }
+    }
+}
+
+/// All tables over five addresses around 4096, all small searches on them.
+#[test]
+fn every_small_search() {
+    const WIDE: usize = 5;
+    let tags = [None, Some((0, 0)), Some((0, 1)), Some((4, 0))];
+    let mut searches = 0;
+    for memory in 0..4usize.pow(WIDE as u32) {
+        for taken in 0..1 << WIDE {
+            let mut toy = Toy::new(4096 - 1, WIDE);
+            for i in 0..WIDE {
+                toy.memory[i] = tags[memory / 4usize.pow(i as u32) % 4];
+                toy.taken[i] = taken >> i & 1 == 1;
+            }
+            // Taken bits without memory below them repeat other cases.
+            if (0..WIDE).any(|i| toy.taken[i] && toy.memory[i].is_none()) {
+                continue;
+            }
+            for direction in [0, 1] {
+                toy.direction = direction;
+                let block = toy.block().unwrap();
+                for size in 1..=3 {
+                    for alignment in [1, 2] {
+                        for (start, end, node) in [
+                            (0, 0, ANY),
+                            (0, 0, 1),
+                            (4097, 0, ANY),
+                            (0, 4098, ANY),
+                            (4097, 4099, 0),
+                        ] {
+                            let wish = Wish {
+                                size,
+                                alignment,
+                                start,
+                                end,
+                                node,
+                            };
+                            let (number, slip_wanted) = slip_of(toy.find(&wish));
+                            let mut slip = [9; 16];
+                            assert_eq!(model::find(&block, &wish, &mut slip), number);
+                            assert_eq!(slip[..], slip_wanted[..]);
+                            searches += 1;
+                        }
+                    }
+                }
+            }
+        }
+    }
+    assert_eq!(searches, 7usize.pow(5) * 60);
+}

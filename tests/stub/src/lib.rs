@@ -1,0 +1,708 @@
+//! A stand-in archive to try the comparison on, and to show that it can fail.
+//!
+//! It exports the same C functions as the library and walks its tables the
+//! plain way: lists of records, gaps between them, 64-bit sums. The variable
+//! STUB_MUTANT names one planted fault by its number; each fault is one line
+//! `// mutant N: what is wrong` beside the code it changes.
+
+use std::sync::atomic::{AtomicU32, AtomicU64, Ordering};
+use std::sync::OnceLock;
+
+const BLOCK_LEN: usize = 6224;
+const CAPACITY: usize = 128;
+const OFFSETS: [usize; 2] = [80, 3152];
+const ANY: u32 = u32::MAX;
+
+fn mutant(k: u32) -> bool {
+    static CHOSEN: OnceLock<u32> = OnceLock::new();
+    *CHOSEN.get_or_init(|| {
+        std::env::var("STUB_MUTANT")
+            .ok()
+            .and_then(|text| text.parse().ok())
+            .unwrap_or(0)
+    }) == k
+}
+
+#[derive(Clone, Copy, PartialEq)]
+struct Rec {
+    base: u64,
+    end: u64,
+    flags: u32,
+    node: u32,
+}
+
+impl Rec {
+    fn same_tag(&self, other: &Rec) -> bool {
+        self.flags == other.flags && self.node == other.node
+    }
+}
+
+struct Block {
+    memory: Vec<Rec>,
+    taken: Vec<Rec>,
+    limit: u64,
+    direction: u32,
+}
+
+fn u32_at(b: &[u8], at: usize) -> u32 {
+    u32::from_le_bytes([b[at], b[at + 1], b[at + 2], b[at + 3]])
+}
+
+fn u64_at(b: &[u8], at: usize) -> u64 {
+    u64::from(u32_at(b, at)) | u64::from(u32_at(b, at + 4)) << 32
+}
+
+fn parse(b: &[u8]) -> Option<Block> {
+    if b.len() != BLOCK_LEN {
+        return None;
+    }
+    let words = [
+        (0, 1),
+        (4, 2),
+        (8, 1),
+        (12, 80),
+        (20, 128),
+        (24, 2),
+        (28, 3152),
+        (36, 128),
+        (52, 0),
+        (72, 0),
+        (76, 0),
+    ];
+    // mutant 1: the word at 52 may hold anything
+    let skip = if mutant(1) { 52 } else { usize::MAX };
+    if words
+        .iter()
+        .any(|&(at, x)| at != skip && u32_at(b, at) != x)
+        || u32_at(b, 48) > 1
+    {
+        return None;
+    }
+    Some(Block {
+        memory: parse_table(b, 0)?,
+        taken: parse_table(b, 1)?,
+        limit: u64_at(b, 40),
+        direction: u32_at(b, 48),
+    })
+}
+
+fn parse_table(b: &[u8], table: usize) -> Option<Vec<Rec>> {
+    let count = u32_at(b, 16 + 16 * table) as usize;
+    if count > CAPACITY {
+        return None;
+    }
+    let mut list: Vec<Rec> = Vec::with_capacity(count);
+    let mut total = 0u64;
+    for i in 0..count {
+        let at = OFFSETS[table] + 24 * i;
+        let (base, size) = (u64_at(b, at), u64_at(b, at + 8));
+        let (flags, node) = (u32_at(b, at + 16), u32_at(b, at + 20));
+        // mutant 2: a record may end at 2^64
+        let end = match base.checked_add(size) {
+            Some(end) => end,
+            None if mutant(2) && base.wrapping_add(size) == 0 => u64::MAX,
+            None => return None,
+        };
+        // mutant 3: taken records may have a tag
+        let legal = match table {
+            0 => (flags == 0 || flags == 4) && node < 64,
+            _ => mutant(3) || (flags == 0 && node == 0),
+        };
+        if size == 0 || !legal {
+            return None;
+        }
+        let rec = Rec {
+            base,
+            end,
+            flags,
+            node,
+        };
+        if let Some(last) = list.last() {
+            // mutant 4: touching records with equal tags pass for good
+            if base < last.end || (!mutant(4) && base == last.end && last.same_tag(&rec)) {
+                return None;
+            }
+        }
+        total = total.wrapping_add(size);
+        list.push(rec);
+    }
+    let past = OFFSETS[table] + 24 * count;
+    // mutant 5: bytes past the count are not looked at
+    let clean = b[past..OFFSETS[table] + 24 * CAPACITY]
+        .iter()
+        .all(|&x| x == 0);
+    (total == u64_at(b, 56 + 8 * table) && (clean || mutant(5))).then_some(list)
+}
+
+fn put_table(b: &mut [u8], table: usize, list: &[Rec], keep_total: bool) {
+    let mut total = 0u64;
+    let start = OFFSETS[table];
+    b[start..start + 24 * CAPACITY].fill(0);
+    for (i, rec) in list.iter().enumerate() {
+        let at = start + 24 * i;
+        let size = rec.end.wrapping_sub(rec.base);
+        total = total.wrapping_add(size);
+        b[at..at + 8].copy_from_slice(&rec.base.to_le_bytes());
+        b[at + 8..at + 16].copy_from_slice(&size.to_le_bytes());
+        b[at + 16..at + 20].copy_from_slice(&rec.flags.to_le_bytes());
+        b[at + 20..at + 24].copy_from_slice(&rec.node.to_le_bytes());
+    }
+    let count_at = 16 + 16 * table;
+    b[count_at..count_at + 4].copy_from_slice(&(list.len() as u32).to_le_bytes());
+    if !keep_total {
+        let total_at = 56 + 8 * table;
+        b[total_at..total_at + 8].copy_from_slice(&total.to_le_bytes());
+    }
+}
+
+/// Stores pieces in rising order as the shortest list, or answers 6.
+fn store(b: &mut [u8], table: usize, pieces: &[Rec]) -> u32 {
+    let mut list: Vec<Rec> = Vec::with_capacity(pieces.len());
+    let mut unmerged = 0;
+    for piece in pieces.iter().filter(|piece| piece.base < piece.end) {
+        unmerged += 1;
+        match list.last_mut() {
+            // mutant 6: merges whatever touches, without looking at the tags
+            Some(last) if last.end == piece.base && (mutant(6) || last.same_tag(piece)) => {
+                last.end = piece.end;
+            }
+            _ => list.push(*piece),
+        }
+    }
+    // mutant 7: 6 is decided before merging
+    let count = if mutant(7) { unmerged } else { list.len() };
+    if count > CAPACITY {
+        // mutant 8: a refusal 6 leaves the cut list behind
+        if mutant(8) {
+            list.truncate(CAPACITY);
+            put_table(b, table, &list, false);
+        }
+        return 6;
+    }
+    put_table(b, table, &list, false);
+    0
+}
+
+/// The end of a table range, cut at the top.
+fn cut(base: u64, size: u64) -> u64 {
+    // mutant 9: cut one address too low
+    let top = if mutant(9) { u64::MAX - 1 } else { u64::MAX };
+    base.saturating_add(size).min(top).max(base)
+}
+
+/// All records, with the part of each inside the range changed or dropped.
+fn split(list: &[Rec], base: u64, end: u64, change: impl Fn(&mut Rec) -> bool) -> Vec<Rec> {
+    let mut pieces = Vec::new();
+    for rec in list {
+        let lo = rec.base.max(base);
+        let hi = rec.end.min(end);
+        if lo >= hi {
+            pieces.push(*rec);
+            continue;
+        }
+        let mut middle = Rec {
+            base: lo,
+            end: hi,
+            ..*rec
+        };
+        pieces.push(Rec { end: lo, ..*rec });
+        if change(&mut middle) {
+            pieces.push(middle);
+        }
+        pieces.push(Rec { base: hi, ..*rec });
+    }
+    pieces
+}
+
+/// All records, and new ones in the gaps of the range between them.
+fn fill(list: &[Rec], base: u64, end: u64, flags: u32, node: u32) -> Vec<Rec> {
+    let mut pieces = Vec::new();
+    let mut at = base;
+    for rec in list {
+        if at < rec.base.min(end) {
+            pieces.push(Rec {
+                base: at,
+                end: rec.base.min(end),
+                flags,
+                node,
+            });
+        }
+        pieces.push(*rec);
+        // mutant 10: add gives its tag to addresses already there
+        if mutant(10) && rec.base >= base && rec.end <= end {
+            let last = pieces.len() - 1;
+            pieces[last].flags = flags;
+            pieces[last].node = node;
+        }
+        at = at.max(rec.end);
+    }
+    if at < end {
+        pieces.push(Rec {
+            base: at,
+            end,
+            flags,
+            node,
+        });
+    }
+    pieces
+}
+
+fn round_up(x: u64, alignment: u64) -> Option<u64> {
+    let mask = alignment - 1;
+    // mutant 11: rounding up goes past the top and lands near 0
+    if mutant(11) {
+        return Some(x.wrapping_add(mask) & !mask);
+    }
+    Some(x.checked_add(mask)? & !mask)
+}
+
+/// The gaps of the taken list inside one record.
+fn gaps(rec: &Rec, taken: &[Rec]) -> Vec<(u64, u64)> {
+    let mut gaps = Vec::new();
+    let mut at = rec.base;
+    for t in taken {
+        if t.end <= at || t.base >= rec.end {
+            continue;
+        }
+        if at < t.base {
+            gaps.push((at, t.base));
+        }
+        at = t.end;
+    }
+    if at < rec.end {
+        gaps.push((at, rec.end));
+    }
+    gaps
+}
+
+fn offered(rec: &Rec, node: u32) -> bool {
+    // mutant 12: no-map memory is offered
+    // mutant 13: any node means node 0
+    let any = node == ANY && (!mutant(13) || rec.node == 0);
+    (rec.flags == 0 || mutant(12)) && (any || rec.node == node)
+}
+
+/// The records a search walks over.
+fn walked(memory: &[Rec]) -> Vec<Rec> {
+    let mut list: Vec<Rec> = Vec::new();
+    for rec in memory {
+        match list.last_mut() {
+            // mutant 14: a run goes on across two tags
+            Some(last) if mutant(14) && last.end == rec.base => last.end = rec.end,
+            _ => list.push(*rec),
+        }
+    }
+    list
+}
+
+struct Ask {
+    size: u64,
+    alignment: u64,
+    start: u64,
+    end: u64,
+    node: u32,
+}
+
+fn search(block: &Block, ask: &Ask) -> Option<u64> {
+    // mutant 15: start is not raised to 4096
+    let lowest = if mutant(15) { 0 } else { 4096 };
+    let start = ask.start.max(lowest);
+    let mut end = match ask.end {
+        0 => block.limit,
+        named => named,
+    };
+    // mutant 16: a named end is cut to the limit
+    if mutant(16) {
+        end = end.min(block.limit);
+    }
+    // mutant 17: the limit of the call before is used
+    static LAST: AtomicU64 = AtomicU64::new(u64::MAX);
+    let last = LAST.swap(block.limit, Ordering::Relaxed);
+    if mutant(17) && ask.end == 0 {
+        end = last;
+    }
+    let end = end.max(start);
+    // mutant 18: the direction is taken the wrong way round
+    let bottom_up = (block.direction == 1) != mutant(18);
+    let mut memory = walked(&block.memory);
+    if !bottom_up {
+        memory.reverse();
+    }
+    for rec in &memory {
+        if !offered(rec, ask.node) {
+            continue;
+        }
+        let mut gaps = gaps(rec, &block.taken);
+        if !bottom_up {
+            gaps.reverse();
+        }
+        for (lo, hi) in gaps {
+            let lo = lo.max(start);
+            let hi = hi.min(end);
+            if bottom_up {
+                let Some(a) = round_up(lo, ask.alignment) else {
+                    continue;
+                };
+                if a < hi && hi - a >= ask.size {
+                    return Some(a);
+                }
+            } else {
+                // mutant 19: end minus size without asking which is smaller
+                if hi < ask.size && !mutant(19) {
+                    continue;
+                }
+                let a = hi.wrapping_sub(ask.size) & !(ask.alignment - 1);
+                if a >= lo && lo < hi {
+                    return Some(a);
+                }
+            }
+        }
+    }
+    None
+}
+
+/// The checks of find, in their order, up to the address.
+fn look(block: &[u8], ask: &Ask) -> Result<(Block, u64), u32> {
+    let block = parse(block).ok_or(1u32)?;
+    if ask.node > 63 && ask.node != ANY {
+        return Err(2);
+    }
+    // mutant 20: size 0 is seen before a bad alignment
+    if mutant(20) && ask.size == 0 {
+        return Err(4);
+    }
+    if !ask.alignment.is_power_of_two() {
+        return Err(3);
+    }
+    if ask.size == 0 {
+        return Err(4);
+    }
+    let a = search(&block, ask).ok_or(5u32)?;
+    Ok((block, a))
+}
+
+fn tell(slip: &mut [u8], answer: Result<(u64, u64), u32>) -> u32 {
+    match answer {
+        Ok((a, b)) => {
+            slip[..8].copy_from_slice(&a.to_le_bytes());
+            slip[8..].copy_from_slice(&b.to_le_bytes());
+            0
+        }
+        Err(number) => {
+            // mutant 21: the slip is not zeroed on a refusal
+            if !mutant(21) {
+                slip.fill(0);
+            }
+            number
+        }
+    }
+}
+
+unsafe fn lent<'a>(p: *const u8, len: usize) -> &'a [u8] {
+    std::slice::from_raw_parts(p, len)
+}
+
+unsafe fn lent_mut<'a>(p: *mut u8, len: usize) -> &'a mut [u8] {
+    std::slice::from_raw_parts_mut(p, len)
+}
+
+/// # Safety
+/// The pointer and the length name one lent buffer; so for all below.
+#[no_mangle]
+pub unsafe extern "C" fn memblock_fresh(block: *mut u8, len: usize) -> u32 {
+    let b = lent_mut(block, len);
+    if len != BLOCK_LEN {
+        return 1;
+    }
+    b.fill(0);
+    for (at, x) in [
+        (0, 1u32),
+        (4, 2),
+        (8, 1),
+        (12, 80),
+        (20, 128),
+        (24, 2),
+        (28, 3152),
+        (36, 128),
+    ] {
+        b[at..at + 4].copy_from_slice(&x.to_le_bytes());
+    }
+    // mutant 22: the limit of a fresh block is 2^63 - 1
+    let limit = if mutant(22) { u64::MAX >> 1 } else { u64::MAX };
+    b[40..48].copy_from_slice(&limit.to_le_bytes());
+    0
+}
+
+/// # Safety
+/// As above.
+#[no_mangle]
+pub unsafe extern "C" fn memblock_set(
+    block: *mut u8,
+    len: usize,
+    limit: u64,
+    direction: u32,
+) -> u32 {
+    let b = lent_mut(block, len);
+    if parse(b).is_none() {
+        return 1;
+    }
+    // mutant 23: set writes the limit before it refuses the direction
+    if direction > 1 && !mutant(23) {
+        return 7;
+    }
+    b[40..48].copy_from_slice(&limit.to_le_bytes());
+    if direction > 1 {
+        return 7;
+    }
+    b[48..52].copy_from_slice(&direction.to_le_bytes());
+    0
+}
+
+/// # Safety
+/// As above.
+#[no_mangle]
+pub unsafe extern "C" fn memblock_add(
+    block: *mut u8,
+    len: usize,
+    base: u64,
+    size: u64,
+    flags: u32,
+    node: u32,
+) -> u32 {
+    let b = lent_mut(block, len);
+    let Some(tables) = parse(b) else { return 1 };
+    // mutant 24: a size of 0 hides a bad tag
+    if mutant(24) && size == 0 {
+        return 0;
+    }
+    if (flags != 0 && flags != 4) || node > 63 {
+        return 2;
+    }
+    let pieces = fill(&tables.memory, base, cut(base, size), flags, node);
+    store(b, 0, &pieces)
+}
+
+unsafe fn change_memory(
+    block: *mut u8,
+    len: usize,
+    base: u64,
+    size: u64,
+    change: impl Fn(&mut Rec) -> bool,
+) -> u32 {
+    let b = lent_mut(block, len);
+    let Some(tables) = parse(b) else { return 1 };
+    let pieces = split(&tables.memory, base, cut(base, size), change);
+    let number = store(b, 0, &pieces);
+    // mutant 34: remove, mark and unmark free the range too
+    if mutant(34) && number == 0 {
+        let rest = split(&tables.taken, base, cut(base, size), |_| false);
+        store(b, 1, &rest);
+    }
+    number
+}
+
+/// # Safety
+/// As above.
+#[no_mangle]
+pub unsafe extern "C" fn memblock_remove(block: *mut u8, len: usize, base: u64, size: u64) -> u32 {
+    change_memory(block, len, base, size, |_| false)
+}
+
+/// # Safety
+/// As above.
+#[no_mangle]
+pub unsafe extern "C" fn memblock_mark(block: *mut u8, len: usize, base: u64, size: u64) -> u32 {
+    // mutant 25: every hundredth mark answers without doing it
+    static MARKS: AtomicU32 = AtomicU32::new(0);
+    if mutant(25) && MARKS.fetch_add(1, Ordering::Relaxed) % 100 == 99 {
+        return if parse(lent(block, len)).is_none() {
+            1
+        } else {
+            0
+        };
+    }
+    change_memory(block, len, base, size, |rec| {
+        rec.flags = 4;
+        true
+    })
+}
+
+/// # Safety
+/// As above.
+#[no_mangle]
+pub unsafe extern "C" fn memblock_unmark(block: *mut u8, len: usize, base: u64, size: u64) -> u32 {
+    change_memory(block, len, base, size, |rec| {
+        rec.flags = 0;
+        true
+    })
+}
+
+/// # Safety
+/// As above.
+#[no_mangle]
+pub unsafe extern "C" fn memblock_reserve(block: *mut u8, len: usize, base: u64, size: u64) -> u32 {
+    let b = lent_mut(block, len);
+    let Some(tables) = parse(b) else { return 1 };
+    store(b, 1, &fill(&tables.taken, base, cut(base, size), 0, 0))
+}
+
+/// # Safety
+/// As above.
+#[no_mangle]
+pub unsafe extern "C" fn memblock_free(block: *mut u8, len: usize, base: u64, size: u64) -> u32 {
+    let b = lent_mut(block, len);
+    let Some(tables) = parse(b) else { return 1 };
+    let end = cut(base, size);
+    // mutant 35: a free that ends inside a record leaves the record
+    if mutant(35) && tables.taken.iter().any(|r| r.base < end && end < r.end) {
+        return 0;
+    }
+    store(b, 1, &split(&tables.taken, base, end, |_| false))
+}
+
+/// # Safety
+/// As above.
+#[no_mangle]
+pub unsafe extern "C" fn memblock_trim(block: *mut u8, len: usize, alignment: u64) -> u32 {
+    let b = lent_mut(block, len);
+    let Some(tables) = parse(b) else { return 1 };
+    if !alignment.is_power_of_two() {
+        return 3;
+    }
+    let mut list = Vec::new();
+    for rec in &tables.memory {
+        let end = rec.end & !(alignment - 1);
+        match round_up(rec.base, alignment) {
+            Some(base) if base < end => list.push(Rec { base, end, ..*rec }),
+            _ => {}
+        }
+    }
+    // mutant 26: trim keeps the old total
+    put_table(b, 0, &list, mutant(26));
+    0
+}
+
+/// # Safety
+/// As above.
+#[no_mangle]
+pub unsafe extern "C" fn memblock_next_free(
+    block: *const u8,
+    len: usize,
+    from: u64,
+    node: u32,
+    slip: *mut u8,
+    slip_len: usize,
+) -> u32 {
+    let b = lent(block, len);
+    // mutant 27: a bad block is seen before a bad slip
+    if mutant(27) && parse(b).is_none() {
+        return 1;
+    }
+    if slip_len != 16 {
+        return 8;
+    }
+    let slip = lent_mut(slip, slip_len);
+    let Some(tables) = parse(b) else {
+        return tell(slip, Err(1));
+    };
+    if node > 63 && node != ANY {
+        return tell(slip, Err(2));
+    }
+    for rec in walked(&tables.memory).iter().filter(|r| offered(r, node)) {
+        for (lo, hi) in gaps(rec, &tables.taken) {
+            if hi <= from {
+                continue;
+            }
+            let a = lo.max(from);
+            // mutant 28: an address of 0 means failure
+            if mutant(28) && a == 0 {
+                return tell(slip, Err(5));
+            }
+            // mutant 29: next free answers the end of the record, not of the run
+            let end = if mutant(29) { rec.end } else { hi };
+            return tell(slip, Ok((a, end)));
+        }
+    }
+    tell(slip, Err(5))
+}
+
+/// # Safety
+/// As above.
+#[no_mangle]
+pub unsafe extern "C" fn memblock_find(
+    block: *const u8,
+    len: usize,
+    size: u64,
+    alignment: u64,
+    start: u64,
+    end: u64,
+    node: u32,
+    slip: *mut u8,
+    slip_len: usize,
+) -> u32 {
+    if slip_len != 16 {
+        return 8;
+    }
+    let ask = Ask {
+        size,
+        alignment,
+        start,
+        end,
+        node,
+    };
+    let answer = look(lent(block, len), &ask).map(|(_, a)| (a, a.wrapping_add(size)));
+    // mutant 30: find writes one byte past the slip
+    if mutant(30) && answer.is_ok() {
+        slip.add(16).write(0);
+    }
+    // mutant 31: find never ends on one size
+    while mutant(31) && size == 3 {
+        std::hint::spin_loop();
+    }
+    // mutant 32: find stops the program on one size
+    if mutant(32) && size == 3 {
+        std::process::abort();
+    }
+    tell(lent_mut(slip, slip_len), answer)
+}
+
+/// # Safety
+/// As above.
+#[no_mangle]
+pub unsafe extern "C" fn memblock_allocate(
+    block: *mut u8,
+    len: usize,
+    size: u64,
+    alignment: u64,
+    start: u64,
+    end: u64,
+    node: u32,
+    slip: *mut u8,
+    slip_len: usize,
+) -> u32 {
+    if slip_len != 16 {
+        return 8;
+    }
+    let ask = Ask {
+        size,
+        alignment,
+        start,
+        end,
+        node,
+    };
+    let b = lent_mut(block, len);
+    let slip = lent_mut(slip, slip_len);
+    let (tables, a) = match look(b, &ask) {
+        Ok(found) => found,
+        Err(number) => return tell(slip, Err(number)),
+    };
+    let pieces = fill(&tables.taken, a, cut(a, size), 0, 0);
+    let number = store(b, 1, &pieces);
+    // mutant 33: allocate shows the address found when it refuses 6
+    if number == 0 || mutant(33) {
+        tell(slip, Ok((a, a.wrapping_add(size))));
+    } else {
+        tell(slip, Err(number));
+    }
+    number
+}

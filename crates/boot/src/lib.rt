@@ -1,8 +1,10 @@
 // The functions that boot code calls. Each takes numbers and lent bytes, answers document 01's number, and asks nothing of its caller.
 use address::Address;
+use address::Size;
+use regions::Tag;
 ghost use mathlib.Core.Path.{_≡_};
 ghost use Rattle.tables.specs.Block.{current};
-ghost use Rattle.tables.specs.Commands.{outcome, fresh, set};
+ghost use Rattle.tables.specs.Commands.{outcome, fresh, set, add, remove, mark, unmark, reserve, free, trim};
 
 // Writes a fresh block over any 6,224 bytes.
 #[no_mangle]
@@ -18,4 +20,52 @@ pub extern "C" fn memblock_set(block: &mut [u8], limit: u64, direction: u32) -> 
     ensures { λ r. ⌜ outcome r (now (block .exit)) ≡ set current limit direction (now (block .entry)) ⌝ }
 {
     tables::commands::set(block, Address(limit), direction)
+}
+
+// Gives the tag to each address of the range not yet in memory.
+#[no_mangle]
+pub extern "C" fn memblock_add(block: &mut [u8], base: u64, size: u64, flags: u32, node: u32) -> u32
+    ensures { λ r. ⌜ outcome r (now (block .exit)) ≡ add current base size flags node (now (block .entry)) ⌝ }
+{
+    tables::commands::add(block, Address(base), Size(size), Tag { flags, node })
+}
+
+// Takes addresses out of memory.
+#[no_mangle]
+pub extern "C" fn memblock_remove(block: &mut [u8], base: u64, size: u64) -> u32
+    ensures { λ r. ⌜ outcome r (now (block .exit)) ≡ remove current base size (now (block .entry)) ⌝ }
+{
+    tables::commands::remove(block, Address(base), Size(size))
+}
+
+// Sets no-map on the range's addresses that are in memory.
+#[no_mangle]
+pub extern "C" fn memblock_mark(block: &mut [u8], base: u64, size: u64) -> u32
+    ensures { λ r. ⌜ outcome r (now (block .exit)) ≡ mark current base size (now (block .entry)) ⌝ }
+{
+    tables::commands::mark(block, Address(base), Size(size))
+}
+
+// Clears no-map on them.
+#[no_mangle]
+pub extern "C" fn memblock_unmark(block: &mut [u8], base: u64, size: u64) -> u32
+    ensures { λ r. ⌜ outcome r (now (block .exit)) ≡ unmark current base size (now (block .entry)) ⌝ }
+{
+    tables::commands::unmark(block, Address(base), Size(size))
+}
+
+// Puts addresses into the taken set.
+#[no_mangle]
+pub extern "C" fn memblock_reserve(block: &mut [u8], base: u64, size: u64) -> u32
+    ensures { λ r. ⌜ outcome r (now (block .exit)) ≡ reserve current base size (now (block .entry)) ⌝ }
+{
+    tables::commands::reserve(block, Address(base), Size(size))
+}
+
+// Takes addresses out of it.
+#[no_mangle]
+pub extern "C" fn memblock_free(block: &mut [u8], base: u64, size: u64) -> u32
+    ensures { λ r. ⌜ outcome r (now (block .exit)) ≡ free current base size (now (block .entry)) ⌝ }
+{
+    tables::commands::free(block, Address(base), Size(size))
 }

@@ -39,7 +39,7 @@ join-grown (r ∷ q ∷ rs) c s t =
 
 -- ---- the length never falls
 
-push-longer : (xs : List Region) (c s : ℕ) (v : State) → length xs ≤ length (push xs c s v)
+pub push-longer : (xs : List Region) (c s : ℕ) (v : State) → length xs ≤ length (push xs c s v)
 unfolding push
 push-longer xs c s Absent = omega arith
 push-longer xs c zero (Present t) = omega arith

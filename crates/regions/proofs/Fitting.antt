@@ -1,17 +1,29 @@
 -- The tests on tags, states and regions, answer by answer. Assumes nothing.
-use Prim.Native.Nat.{ℕ, _≤_, _<_}
-use mathlib.Core.Path.{_≡_, refl, sym}
+use Prim.Native.Nat.{ℕ, _+_, _-_, _/_, _%_, _≤_, _<_}
+use mathlib.Core.Path.{_≡_, refl, sym, ap, _∙_}
 use mathlib.Core.Bool.{Bool, true, false, not, _&&_, and-false}
+use mathlib.Core.Logic.{_⊎_, inl, inr}
 use native.Mathlib.Omega.{arith}
+use native.Mathlib.Nat.{div-eq-of-lt}
 use lib.Dec.{ltb, eqb}
 use borrow.Author.Tests.{lt-ltb, le-ltb, le-leb, lt-leb, eq-eqb, ne-eqb}
+use Rattle.address.specs.declared.Address.{Address}
+use Rattle.address.specs.declared.CheckedAddress.{CheckedAddress}
+use Rattle.address.specs.declared.CheckedAddress.the-variants.{At, Outside}
+use Rattle.address.specs.Numbers.{address}
+use Rattle.address.proofs.Tests.{le-or-lt}
+use Rattle.address.proofs.Checked.{address-at, address-outside}
 use Rattle.regions.specs.declared.Tag.{Tag}
 use Rattle.regions.specs.declared.Region.{Region}
 use Rattle.regions.specs.declared.State.{State}
 use Rattle.regions.specs.declared.State.the-variants.{Absent, Present}
 use Rattle.regions.specs.declared.Kind.{Kind}
 use Rattle.regions.specs.declared.Kind.the-variants.{Memory, Taken}
-use Rattle.regions.specs.Meaning.{sameTag}
+use Rattle.regions.specs.declared.Change.{Change}
+use Rattle.regions.specs.declared.Change.the-variants.{Fill, Clear, Mark, Unmark}
+use Rattle.regions.specs.Meaning.{end, joins, sameTag}
+use Rattle.regions.specs.Changes.{change, setFlag, clearFlag}
+use Rattle.regions.specs.Steps.{Weighs, Light}
 use Rattle.regions.specs.Lists.{is, fits, legalTag}
 
 -- ---- tags
@@ -86,3 +98,93 @@ module _ (c : ℕ) (v : State) (r : Region) where
       whole : (b : Bool) → b && true ≡ b
       whole true = refl
       whole false = refl
+
+-- ---- a region that grows
+
+module _ (r : Region) (c : Address) (t : Tag) (x : CheckedAddress) (q : x ≡ address (end r)) where
+  pub joins-past : c .0 < 18446744073709551616 → x ≡ Outside → false ≡ joins r (c .0) t
+  joins-past h e =
+      let d : end r ≡ c .0 → ⊥ = λ f. omega (arith, address-outside (end r) x q e) in
+      rw (ne-eqb (end r) (c .0) d)
+
+  module _ (e : Address) (f : x ≡ At e) where
+    pub joins-apart : (e .0 ≡ c .0 → ⊥) → false ≡ joins r (c .0) t
+    joins-apart n =
+        let d : end r ≡ c .0 → ⊥ = λ g. n (address-at (end r) x e q f .0 ∙ g) in
+        rw (ne-eqb (end r) (c .0) d)
+
+    pub joins-tag : (b : Bool) → e .0 ≡ c .0 → b ≡ sameTag (r .tag) t → b ≡ joins r (c .0) t
+    joins-tag b g h =
+        let d : end r ≡ c .0 = sym (address-at (end r) x e q f .0) ∙ g in
+        rw (eq-eqb (end r) (c .0) d) h
+
+-- ---- flags
+
+module _ (w f : ℕ) where
+  pub flag-there : f / w % 2 ≡ 1 → f ≡ setFlag w f
+  flag-there e = rw (eq-eqb (f / w % 2) 1 e)
+
+  pub flag-set : (f / w % 2 ≡ 1 → ⊥) → f + w ≡ setFlag w f
+  flag-set e = rw (ne-eqb (f / w % 2) 1 e)
+
+  pub flag-cleared : f / w % 2 ≡ 1 → f - w ≡ clearFlag w f
+  flag-cleared e = rw (eq-eqb (f / w % 2) 1 e)
+
+  pub flag-gone : (f / w % 2 ≡ 1 → ⊥) → f ≡ clearFlag w f
+  flag-gone e = rw (ne-eqb (f / w % 2) 1 e)
+
+  -- flags that have a flag are no less than its weight
+  pub flag-le : f / w % 2 ≡ 1 → w ≤ f
+  flag-le e = go (le-or-lt w f)
+    where
+      go : (w ≤ f) ⊎ (f < w) → w ≤ f
+      go (inl h) = h
+      go (inr h) =
+          let z : f / w ≡ 0 = div-eq-of-lt h in
+          let y : 0 % 2 ≡ 1 = ap (λ (n : ℕ). n % 2) (sym z) ∙ e in
+          absurd (omega arith)
+
+-- ---- changes
+
+module _ (k : Change) (v : State) where
+  pub fill-absent : (t : Tag) → v ≡ Absent → k ≡ Fill t → Present t ≡ change k v
+  unfolding change
+  fill-absent t e f = rw (e, f)
+
+  pub clear-absent : v ≡ Absent → k ≡ Clear → Absent ≡ change k v
+  unfolding change
+  clear-absent e f = rw (e, f)
+
+  pub mark-absent : (w : ℕ) → v ≡ Absent → k ≡ Mark w → Absent ≡ change k v
+  unfolding change
+  mark-absent w e f = rw (e, f)
+
+  pub unmark-absent : (w : ℕ) → v ≡ Absent → k ≡ Unmark w → Absent ≡ change k v
+  unfolding change
+  unmark-absent w e f = rw (e, f)
+
+  module _ (own : Tag) (e : v ≡ Present own) where
+    pub fill-present : (t : Tag) → k ≡ Fill t → Present own ≡ change k v
+    unfolding change
+    fill-present t f = rw (e, f)
+
+    pub clear-present : k ≡ Clear → Absent ≡ change k v
+    unfolding change
+    clear-present f = rw (e, f)
+
+    pub mark-present : (w : ℕ) (t : Tag) → k ≡ Mark w → (t .flags ≡ setFlag w (own .flags)) × (t .node ≡ own .node) → Present t ≡ change k v
+    unfolding change
+    mark-present w t f g = rw (e, f) (ap Present (λ i. record { flags = g .0 i; node = g .1 i }))
+
+    pub unmark-present : (w : ℕ) (t : Tag) → k ≡ Unmark w → (t .flags ≡ clearFlag w (own .flags)) × (t .node ≡ own .node) → Present t ≡ change k v
+    unfolding change
+    unmark-present w t f g = rw (e, f) (ap Present (λ i. record { flags = g .0 i; node = g .1 i }))
+
+    pub light-flags : Light v → own .flags ≤ 7
+    light-flags l = rw e at l
+
+  pub weighs-mark : (w : ℕ) → k ≡ Mark w → Weighs k → (0 < w) × (w ≤ 4)
+  weighs-mark w e h = rw e at h
+
+  pub weighs-unmark : (w : ℕ) → k ≡ Unmark w → Weighs k → (0 < w) × (w ≤ 4)
+  weighs-unmark w e h = rw e at h

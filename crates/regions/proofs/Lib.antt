@@ -1,11 +1,13 @@
 pub mod Numbers
 pub mod Records
+pub mod Spelled
 pub mod Push
 pub mod Rises
 pub mod Fitting
 pub mod Count
 pub mod RoundTrip
 pub mod Good
+pub mod Legal
 pub mod Prefix
 pub mod Twins
 pub mod Update

@@ -1,19 +1,13 @@
 -- Executable twins: a change over a range and the free runs, worked out on lists of regions. Assumes nothing.
-use Prim.Native.Nat.{ℕ, _-_, min, max}
+use Prim.Native.Nat.{ℕ, max}
 use mathlib.Core.Bool.{cond}
 use mathlib.Core.List.{List, [], _∷_}
 use Rattle.regions.specs.declared.Region.{Region}
 use Rattle.regions.specs.declared.State.{State}
 use Rattle.regions.specs.declared.State.the-variants.{Absent, Present}
-use Rattle.regions.specs.Meaning.{end, push}
+use Rattle.regions.specs.Meaning.{end}
+use Rattle.regions.specs.Steps.{stretch}
 use Rattle.regions.specs.Changes.{has}
-
--- the stretch from c to e of state v, put behind acc: as it was below lo, changed from lo to hi, as it was from hi on
-unfoldable pub stretch : (State → State) → ℕ → ℕ → List Region → ℕ → ℕ → State → List Region
-stretch k lo hi acc c e v =
-    let m = max c (min lo e) in
-    let p = max c (min hi e) in
-    push (push (push acc c (m - c) v) m (p - m) (k v)) p (e - p) v
 
 -- acc is done up to c, and the regions are to come
 unfoldable pub walk : (State → State) → ℕ → ℕ → List Region → ℕ → List Region → List Region

@@ -8,7 +8,8 @@ use Rattle.regions.specs.declared.State.{State}
 use Rattle.regions.specs.declared.State.the-variants.{Absent, Present}
 use Rattle.regions.specs.Meaning.{Meaning, end, at, push, shortest}
 use Rattle.regions.specs.Changes.{after}
-use Rattle.regions.proofs.Twins.{stretch, walk, update}
+use Rattle.regions.specs.Steps.{stretch}
+use Rattle.regions.proofs.Twins.{walk, update}
 use Rattle.regions.proofs.Rises.{Rises, done, next, Canonical, reach}
 use Rattle.regions.proofs.Push.{push-to}
 use Rattle.regions.proofs.RoundTrip.{canonical-shortest, at-shortest, inside-yes, inside-below, inside-past, at-here, at-before, at-past, rises-end, rises-below, push-absent, Stops, retrace}

@@ -4,3 +4,4 @@ pub mod Changes
 pub mod Trim
 pub mod Free
 pub mod Bytes
+pub mod Steps

@@ -4,7 +4,10 @@ use address::CheckedAddress;
 use address::Size;
 ghost use mathlib.Core.Path.{_≡_};
 ghost use Rattle.address.specs.Numbers.{address as checkedAddress};
-ghost use Rattle.regions.specs.Meaning.{end as endOf, sameTag};
+ghost use Rattle.regions.specs.Meaning.{end as endOf, joins as joinsAt, sameTag};
+ghost use Prim.Native.Nat.{_<_, _≤_};
+ghost use Rattle.regions.specs.Changes.{change, setFlag, clearFlag};
+ghost use Rattle.regions.specs.Steps.{Weighs, Light};
 ghost use Rattle.regions.specs.Lists.{is as isTag, fits as fitsAfter, legalTag};
 
 pub mod bytes;
@@ -52,6 +55,34 @@ impl Tag {
         self.node == other.node
     }
 
+    // With the flag of weight `w`.
+    pub fn with_flag(self, w: u32) -> Tag
+        requires { ⌜ (0 < w) × ((w ≤ 4) × (self .flags ≤ 7)) ⌝ }
+        ensures { λ r. ⌜ (r .flags ≡ setFlag w (self .flags)) × (r .node ≡ self .node) ⌝ }
+    {
+        if self.flags / w % 2 == 1 {
+            return self;
+        }
+        Tag {
+            flags: self.flags + w,
+            node: self.node,
+        }
+    }
+
+    // Without it.
+    pub fn without_flag(self, w: u32) -> Tag
+        requires { ⌜ 0 < w ⌝ }
+        ensures { λ r. ⌜ (r .flags ≡ clearFlag w (self .flags)) × (r .node ≡ self .node) ⌝ }
+    {
+        if self.flags / w % 2 == 1 {
+            return Tag {
+                flags: self.flags - w,
+                node: self.node,
+            };
+        }
+        self
+    }
+
     // Whether the tag may stand in the table.
     pub fn legal(self, kind: Kind) -> bool
         ensures { λ r. ⌜ r ≡ legalTag kind self ⌝ }
@@ -88,7 +119,44 @@ impl State {
     }
 }
 
+impl Change {
+    // What the change makes of an address of this state.
+    pub fn apply(self, state: State) -> State
+        requires { ⌜ Weighs self × Light state ⌝ }
+        ensures { λ r. ⌜ r ≡ change self state ⌝ }
+    {
+        match state {
+            State::Absent => match self {
+                Change::Fill(tag) => State::Present(tag),
+                Change::Clear => State::Absent,
+                Change::Mark(_w) => State::Absent,
+                Change::Unmark(_w) => State::Absent,
+            },
+            State::Present(own) => match self {
+                Change::Fill(_tag) => state,
+                Change::Clear => State::Absent,
+                Change::Mark(w) => State::Present(own.with_flag(w)),
+                Change::Unmark(w) => State::Present(own.without_flag(w)),
+            },
+        }
+    }
+}
+
 impl Region {
+    // Whether what starts at `base` with this tag is one with the region: the region ends there with that tag.
+    pub fn joins(self, base: Address, tag: Tag) -> bool
+        ensures { λ r. ⌜ r ≡ joinsAt self (base .0) tag ⌝ }
+    {
+        let CheckedAddress::At(end) = self.end() else {
+            return false;
+        };
+        if end.0 != base.0 {
+            return false;
+        }
+        let own = self.tag;
+        own.same(tag)
+    }
+
     // The first address past the region.
     pub fn end(self) -> CheckedAddress
         ensures { λ r. ⌜ r ≡ checkedAddress (endOf self) ⌝ }

@@ -59,7 +59,7 @@ part-spelled c n l h e f z =
 -- ---- the parts of a block of the right length
 
 module _ (L : Layout) (b : List ℕ) (len : length b ≡ blockLength L) where
-  part-length : (k : Kind) → length (part L k b) ≡ 24 * capacity L k
+  pub part-length : (k : Kind) → length (part L k b) ≡ 24 * capacity L k
   unfolding capacity offset
   part-length Memory = length-take-le (24 * L .memory) (drop 80 b) (rw length-drop (omega arith))
   part-length Taken = length-take-le (24 * L .taken) (drop (80 + 24 * L .memory) b) (rw length-drop (omega arith))

@@ -4,5 +4,14 @@ pub mod Checking
 pub mod Header
 pub mod Blocks
 pub mod Reading
+pub mod Kept
+pub mod Fields
 pub mod Setting
 pub mod Printed
+pub mod Pushing
+pub mod Placing
+pub mod Copying
+pub mod Walking
+pub mod Storing
+pub mod Ranging
+pub mod Commanding

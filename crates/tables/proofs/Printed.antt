@@ -18,7 +18,8 @@ use Rattle.regions.proofs.Rises.{done, Canonical, rises-Rises}
 use Rattle.regions.proofs.Count.{sizes}
 use Rattle.regions.proofs.RoundTrip.{rises-weaken}
 use Rattle.regions.proofs.Good.{total-is-sizes}
-use Rattle.regions.proofs.Twins.{stretch, walk, update}
+use Rattle.regions.specs.Steps.{stretch}
+use Rattle.regions.proofs.Twins.{walk, update}
 use Rattle.regions.proofs.Update.{update-shortest}
 use Rattle.tables.specs.Block.{current, capacity, offset, withList, freshContents, entryBytes, entriesBytes, settingsBytes, totalsBytes, headerBytes, blockBytes, goodTable, goodContents, good}
 use Rattle.tables.specs.Commands.{outcome, tag, fresh, store, add}

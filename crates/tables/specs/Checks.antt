@@ -5,6 +5,7 @@ use mathlib.Core.List.{List, [], _∷_}
 use lib.Dec.{leb, eqb}
 use lib.ListN.{length, drop}
 use Rattle.regions.specs.declared.Kind.{Kind}
+use Rattle.regions.specs.declared.Kind.the-variants.{Memory, Taken}
 use Rattle.regions.specs.declared.Region.{Region}
 use Rattle.regions.specs.Meaning.{at, total, top}
 use Rattle.regions.specs.Lists.{goodList}
@@ -12,6 +13,7 @@ use Rattle.regions.specs.Bytes.{readRegions}
 use Rattle.address.specs.declared.Size.{Size}
 use Rattle.tables.specs.declared.block.Layout.{Layout}
 use Rattle.tables.specs.declared.block.Header.{Header}
+use Rattle.tables.specs.declared.block.Tally.{Tally}
 use Rattle.tables.specs.declared.table.Checked.{Checked}
 use Rattle.tables.specs.declared.table.Checked.the-variants.{Total, Bad}
 
@@ -29,6 +31,15 @@ withTotals h memory taken =
       limit = h .limit;
       direction = h .direction;
     }
+
+-- a table's part of a header, and the header with another
+abbrev pub tallyOf : Header → Kind → Tally
+tallyOf h Memory = h .memory
+tallyOf h Taken = h .taken
+
+abbrev pub withTally : Header → Kind → Tally → Header
+withTally h Memory t = record { memory = t; taken = h .taken; limit = h .limit; direction = h .direction }
+withTally h Taken t = record { memory = h .memory; taken = t; limit = h .limit; direction = h .direction }
 
 -- every byte is 0
 unfoldable pub zeros : List ℕ → Bool

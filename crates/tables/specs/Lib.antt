@@ -1,3 +1,4 @@
 pub mod Block
 pub mod Commands
 pub mod Checks
+pub mod Steps

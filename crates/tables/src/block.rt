@@ -12,8 +12,8 @@ ghost use mathlib.Core.Path.{_≡_};
 ghost use Prim.Native.Nat.{_+_, _*_, _<_, _≤_};
 ghost use lib.ListN.{length, take, drop};
 ghost use lib.Seq.{sets};
-ghost use Rattle.tables.specs.Block.{current, entryBytes, entriesBytes, settingsBytes, totalsBytes, headerBytes, readHeader, sameBytes, good};
-ghost use Rattle.tables.specs.Checks.{Small, withTotals};
+ghost use Rattle.tables.specs.Block.{current, capacity as capacityOf, offset, entryBytes, entriesBytes, settingsBytes, totalsBytes, headerBytes, readHeader, sameBytes, good};
+ghost use Rattle.tables.specs.Checks.{Small, withTotals, tallyOf, withTally};
 
 // Which edition, and how many records each table has room for.
 pub struct Layout {
@@ -34,6 +34,66 @@ pub struct Header {
     pub taken: Tally,
     pub limit: Address,
     pub direction: u32,
+}
+
+impl Header {
+    // A table's count and total.
+    pub fn tally(self, kind: Kind) -> Tally
+        ensures { λ r. ⌜ r ≡ tallyOf self kind ⌝ }
+    {
+        let memory = self.memory;
+        let taken = self.taken;
+        match kind {
+            Kind::Memory => memory,
+            Kind::Taken => taken,
+        }
+    }
+
+    // The header with another count and total for a table.
+    pub fn with_tally(self, kind: Kind, tally: Tally) -> Header
+        ensures { λ r. ⌜ r ≡ withTally self kind tally ⌝ }
+    {
+        let memory = self.memory;
+        let taken = self.taken;
+        let limit = self.limit;
+        match kind {
+            Kind::Memory => Header {
+                memory: tally,
+                taken,
+                limit,
+                direction: self.direction,
+            },
+            Kind::Taken => Header {
+                memory,
+                taken: tally,
+                limit,
+                direction: self.direction,
+            },
+        }
+    }
+}
+
+impl Layout {
+    // Where a table begins.
+    pub fn start(self, kind: Kind) -> usize
+        requires { ⌜ Small self ⌝ }
+        ensures { λ r. ⌜ r ≡ offset self kind ⌝ }
+    {
+        match kind {
+            Kind::Memory => 80,
+            Kind::Taken => 80 + 24 * (self.memory as usize),
+        }
+    }
+
+    // How many records a table has room for.
+    pub fn capacity(self, kind: Kind) -> usize
+        ensures { λ r. ⌜ r ≡ capacityOf self kind ⌝ }
+    {
+        match kind {
+            Kind::Memory => self.memory as usize,
+            Kind::Taken => self.taken as usize,
+        }
+    }
 }
 
 // The layout that the commands work on: edition 1.

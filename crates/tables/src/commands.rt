@@ -5,14 +5,19 @@ use crate::block::block_good;
 use crate::block::current_layout;
 use crate::block::get_header;
 use crate::block::put_header;
+use crate::range::change_range;
 use crate::table::put_zeros;
 use address::Address;
 use address::Size;
+use regions::Change;
+use regions::Kind;
+use regions::Tag;
 ghost use mathlib.Core.Path.{_≡_};
 ghost use Prim.Native.Nat.{_≤_};
 ghost use lib.ListN.{length};
-ghost use Rattle.tables.specs.Block.{current};
-ghost use Rattle.tables.specs.Commands.{outcome, fresh as freshOutcome, set as setOutcome};
+ghost use Rattle.tables.specs.Block.{current, good};
+ghost use Rattle.tables.specs.Commands.{outcome, unless, changeRange, fresh as freshOutcome, set as setOutcome, add as addOutcome, remove as removeOutcome, mark as markOutcome, unmark as unmarkOutcome, reserve as reserveOutcome, free as freeOutcome};
+ghost use Rattle.regions.specs.Steps.{Weighs};
 
 // Writes a fresh block over any bytes of the right length.
 pub fn fresh(block: &mut [u8]) -> u32
@@ -59,4 +64,64 @@ pub fn set(block: &mut [u8], limit: Address, direction: u32) -> u32
     };
     put_header(block, layout, header);
     0
+}
+
+// A change over a range of a table, on any block.
+fn on_range(block: &mut [u8], kind: Kind, change: Change, base: Address, size: Size) -> u32
+    requires { ⌜ Weighs change ⌝ }
+    ensures { λ r. ⌜ outcome r (now (block .exit)) ≡ unless (good current (now (block .entry))) 1 (now (block .entry)) (changeRange current kind change (base .0) (size .0) (now (block .entry))) ⌝ }
+{
+    if !block_good(block, current_layout()) {
+        return 1;
+    }
+    change_range(block, kind, change, base, size)
+}
+
+// Gives the tag to each address of the range not yet in memory.
+pub fn add(block: &mut [u8], base: Address, size: Size, tag: Tag) -> u32
+    ensures { λ r. ⌜ outcome r (now (block .exit)) ≡ addOutcome current (base .0) (size .0) (tag .flags) (tag .node) (now (block .entry)) ⌝ }
+{
+    if !block_good(block, current_layout()) {
+        return 1;
+    }
+    if !tag.legal(Kind::Memory) {
+        return 2;
+    }
+    change_range(block, Kind::Memory, Change::Fill(tag), base, size)
+}
+
+// Takes addresses out of memory.
+pub fn remove(block: &mut [u8], base: Address, size: Size) -> u32
+    ensures { λ r. ⌜ outcome r (now (block .exit)) ≡ removeOutcome current (base .0) (size .0) (now (block .entry)) ⌝ }
+{
+    on_range(block, Kind::Memory, Change::Clear, base, size)
+}
+
+// Sets no-map on the range's addresses that are in memory.
+pub fn mark(block: &mut [u8], base: Address, size: Size) -> u32
+    ensures { λ r. ⌜ outcome r (now (block .exit)) ≡ markOutcome current (base .0) (size .0) (now (block .entry)) ⌝ }
+{
+    on_range(block, Kind::Memory, Change::Mark(4), base, size)
+}
+
+// Clears no-map on them.
+pub fn unmark(block: &mut [u8], base: Address, size: Size) -> u32
+    ensures { λ r. ⌜ outcome r (now (block .exit)) ≡ unmarkOutcome current (base .0) (size .0) (now (block .entry)) ⌝ }
+{
+    on_range(block, Kind::Memory, Change::Unmark(4), base, size)
+}
+
+// Puts addresses into the taken set.
+pub fn reserve(block: &mut [u8], base: Address, size: Size) -> u32
+    ensures { λ r. ⌜ outcome r (now (block .exit)) ≡ reserveOutcome current (base .0) (size .0) (now (block .entry)) ⌝ }
+{
+    let plain = Tag { flags: 0, node: 0 };
+    on_range(block, Kind::Taken, Change::Fill(plain), base, size)
+}
+
+// Takes addresses out of it.
+pub fn free(block: &mut [u8], base: Address, size: Size) -> u32
+    ensures { λ r. ⌜ outcome r (now (block .exit)) ≡ freeOutcome current (base .0) (size .0) (now (block .entry)) ⌝ }
+{
+    on_range(block, Kind::Taken, Change::Clear, base, size)
 }

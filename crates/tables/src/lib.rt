@@ -1,4 +1,6 @@
 // The block that boot code lends: two tables of regions under a header, and the commands on them.
 pub mod block;
+pub mod change;
 pub mod commands;
+pub mod range;
 pub mod table;

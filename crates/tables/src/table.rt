@@ -9,10 +9,15 @@ use regions::bytes::get_region;
 use regions::bytes::get_u64;
 ghost use mathlib.Core.Path.{_≡_};
 ghost use mathlib.Core.List.{_++_};
-ghost use Prim.Native.Nat.{_*_, _-_, _≤_};
+ghost use Prim.Native.Nat.{_*_, _-_, _/_, _≤_};
 ghost use lib.ListN.{length, take, drop, replicate};
-ghost use Rattle.regions.specs.Bytes.{readRegions};
+ghost use Rattle.regions.specs.Bytes.{readRegions, tableBytes};
+ghost use mathlib.Core.Bool.{true};
+ghost use Rattle.regions.specs.declared.State.the-variants.{Absent};
+ghost use Rattle.regions.specs.Meaning.{at, total, top};
+ghost use Rattle.regions.specs.Lists.{rises};
 ghost use Rattle.tables.specs.Checks.{zeros, checkedList, checkedTable};
+ghost use Rattle.tables.specs.Steps.{Table, endingBy};
 
 // What the check of a table answers: its total, or that it is not good.
 pub enum Checked {
@@ -109,4 +114,64 @@ pub fn put_zeros(t: &mut [u8], at: usize)
         t[i] = 0;
         i += 1;
     }
+}
+
+// Copies the first `m` bytes.
+pub fn copy_front(dst: &mut [u8], src: &[u8], m: usize)
+    requires { ⌜ (m ≤ length (now dst)) × (m ≤ length (now src)) ⌝ }
+    ensures { λ _. ⌜ now (dst .exit) ≡ take m (now (src .entry)) ++ drop m (now (dst .entry)) ⌝ }
+{
+    let mut i = 0;
+    while i < m {
+        dst[i] = src[i];
+        i += 1;
+    }
+}
+
+// How many of the first records end at or below `a`: where a range that begins at `a` begins among them.
+pub fn place(t: &[u8], count: usize, a: Address) -> usize
+    requires { ⌜ Table (now t) count ⌝ }
+    ensures { λ r. ⌜ r ≡ endingBy (a .0) (readRegions count (now (t .entry))) ⌝ }
+{
+    let mut i = 0;
+    while i < count {
+        let r = get_region(t, 24 * i);
+        let CheckedAddress::At(end) = r.end() else {
+            return i;
+        };
+        if a.0 < end.0 {
+            return i;
+        }
+        i += 1;
+    }
+    i
+}
+
+// Makes `t`, a whole table, hold the first `n` records of `src`, and zeros behind them.
+pub fn store_table(t: &mut [u8], src: &[u8], n: usize)
+    requires { ⌜ (24 * n ≤ length (now t)) × ((24 * n ≤ length (now src)) × (length (now t) ≡ 24 * (length (now t) / 24))) ⌝ }
+    ensures { λ _. ⌜ now (t .exit) ≡ tableBytes (length (now (t .entry)) / 24) (readRegions n (now (src .entry))) ⌝ }
+{
+    let m = 24 * n;
+    copy_front(t, src, m);
+    put_zeros(t, m);
+}
+
+// How many addresses the first `n` records say.
+pub fn total_of(t: &[u8], n: usize) -> Size
+    requires { ⌜ (24 * n ≤ length (now t)) × (rises 0 Absent top (readRegions n (now t)) ≡ true) ⌝ }
+    ensures { λ r. ⌜ r .0 ≡ total (at (readRegions n (now (t .entry)))) top ⌝ }
+{
+    let mut sum = Size(0);
+    let mut i = 0;
+    while i < n {
+        let r = get_region(t, 24 * i);
+        let size = r.size;
+        let CheckedSize::Of(more) = sum.plus(size) else {
+            return sum;
+        };
+        sum = more;
+        i += 1;
+    }
+    sum
 }

@@ -1,5 +1,5 @@
-use native.Mathlib.Omega.{arith}
 -- `tables::block::same_header` meets its contract.
+use native.Mathlib.Omega.{arith}
 use Prim.Native.Nat.{_*_, _-_, _≤_}
 use lib.ListN.{drop}
 use mathlib.Core.Path.{_≡_, refl}
@@ -8,6 +8,7 @@ use Rattle.regions.proofs.Numbers.{Bytes, bytes-all}
 use Rattle.tables.proofs.Same.{same-hit, same-again, same-end}
 use borrow.Author.Needs.{needs}
 use Rattle.tables.proofs.block.same_header.Statement.{statement}
+-- `tables::block::same_header` meets its contract.
 use Rattle.tables.proofs.block.same_header.Tie as tie
 
 abbrev Inv-loop : tie.InvT-loop

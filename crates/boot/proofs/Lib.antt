@@ -1,0 +1,6 @@
+pub mod Steps
+pub mod Agreeing
+pub mod Runs
+pub mod Often
+pub mod Standing
+pub mod DemandThree

@@ -1,0 +1,28 @@
+-- Steps of a walk over a table. Only inner contracts and proofs cite this module. Assumes nothing.
+use Prim.Native.Nat.{ℕ, _-_, _≤_, _<_, min, max}
+use mathlib.Core.List.{List}
+use Rattle.regions.specs.declared.Region.{Region}
+use Rattle.regions.specs.declared.State.{State}
+use Rattle.regions.specs.declared.State.the-variants.{Absent, Present}
+use Rattle.regions.specs.declared.Change.{Change}
+use Rattle.regions.specs.declared.Change.the-variants.{Fill, Clear, Mark, Unmark}
+use Rattle.regions.specs.Meaning.{push}
+
+-- a change whose flag is one of the three weights or between them
+abbrev pub Weighs : Change → Type 0
+Weighs (Fill t) = Unit {0}
+Weighs Clear = Unit {0}
+Weighs (Mark w) = (0 < w) × (w ≤ 4)
+Weighs (Unmark w) = (0 < w) × (w ≤ 4)
+
+-- a state whose flags leave room for one more
+abbrev pub Light : State → Type 0
+Light Absent = Unit {0}
+Light (Present t) = t .flags ≤ 7
+
+-- the stretch from c to e of state v, put behind acc: as it was below lo, changed from lo to hi, as it was from hi on
+unfoldable pub stretch : (State → State) → ℕ → ℕ → List Region → ℕ → ℕ → State → List Region
+stretch k lo hi acc c e v =
+    let m = max c (min lo e) in
+    let p = max c (min hi e) in
+    push (push (push acc c (m - c) v) m (p - m) (k v)) p (e - p) v

@@ -1,0 +1,62 @@
+-- The commands on a range, answer by answer. Assumes nothing.
+use Prim.Native.Nat.{ℕ}
+use mathlib.Core.Path.{_≡_, sym, _∙_}
+use mathlib.Core.Bool.{Bool, true, false, not}
+use mathlib.Core.List.{List}
+use borrow.Author.Tests.{not-true, not-false}
+use Rattle.regions.specs.declared.Kind.the-variants.{Memory, Taken}
+use Rattle.regions.specs.declared.Tag.{Tag}
+use Rattle.regions.specs.declared.Change.the-variants.{Fill, Clear, Mark, Unmark}
+use Rattle.regions.specs.Lists.{legalTag}
+use Rattle.tables.specs.declared.block.Layout.{Layout}
+use Rattle.tables.specs.Block.{current, good}
+use Rattle.tables.specs.Commands.{Outcome, outcome, unless, changeRange, tag, add, remove, mark, unmark, reserve, free}
+
+module _ (l : Layout) (is : l ≡ current) (b : List ℕ) (g : Bool) (q : g ≡ good l b) where
+  pub good-now : (t : Bool) → g ≡ t → good current b ≡ t
+  good-now t e = rw (← is) (sym q ∙ e)
+
+  pub good-here : not g ≡ false → good current b ≡ true
+  good-here t = good-now true (not-false g t)
+
+  pub range-bad : (o : Outcome) → not g ≡ true → outcome 1 b ≡ unless (good current b) 1 b o
+  range-bad o t = rw (good-now false (not-true g t))
+
+  pub range-good : (o p : Outcome) → not g ≡ false → o ≡ p → o ≡ unless (good current b) 1 b p
+  range-good o p t e = rw (good-here t) e
+
+  module _ (base size : ℕ) (t : Tag) where
+    pub add-bad : not g ≡ true → outcome 1 b ≡ add current base size (t .flags) (t .node) b
+    unfolding add
+    add-bad n = rw (good-now false (not-true g n))
+
+    module _ (n : not g ≡ false) (x : Bool) (p : x ≡ legalTag Memory t) where
+      pub add-tag : not x ≡ true → outcome 2 b ≡ add current base size (t .flags) (t .node) b
+      unfolding add
+      add-tag u = rw (good-here n, ← p, not-true x u)
+
+      pub add-good : (o : Outcome) → not x ≡ false → o ≡ changeRange current Memory (Fill t) base size b → o ≡ add current base size (t .flags) (t .node) b
+      unfolding add
+      add-good o u e = rw (good-here n, ← p, not-false x u) e
+
+-- the five that have no tag to check
+module _ (base size : ℕ) (b : List ℕ) (o : Outcome) where
+  pub remove-is : o ≡ unless (good current b) 1 b (changeRange current Memory Clear base size b) → o ≡ remove current base size b
+  unfolding remove
+  remove-is e = e
+
+  pub mark-is : o ≡ unless (good current b) 1 b (changeRange current Memory (Mark 4) base size b) → o ≡ mark current base size b
+  unfolding mark
+  mark-is e = e
+
+  pub unmark-is : o ≡ unless (good current b) 1 b (changeRange current Memory (Unmark 4) base size b) → o ≡ unmark current base size b
+  unfolding unmark
+  unmark-is e = e
+
+  pub reserve-is : o ≡ unless (good current b) 1 b (changeRange current Taken (Fill (tag 0 0)) base size b) → o ≡ reserve current base size b
+  unfolding reserve
+  reserve-is e = e
+
+  pub free-is : o ≡ unless (good current b) 1 b (changeRange current Taken Clear base size b) → o ≡ free current base size b
+  unfolding free
+  free-is e = e

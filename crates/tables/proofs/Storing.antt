@@ -1,0 +1,231 @@
+-- A table's list and its tally, put in the place of the old. Assumes nothing.
+use Prim.Native.Nat.{ℕ, _+_, _*_, _-_, _/_, _≤_, _<_}
+use mathlib.Core.Path.{_≡_, refl, sym, ap, ap₂, _∙_}
+use mathlib.Core.Bool.{true}
+use mathlib.Core.List.{List, _∷_, _++_, append-assoc, append-nil}
+use native.Mathlib.Omega.{arith}
+use native.Mathlib.Nat.{sub-zero}
+use lib.ListN.{length, take, drop, replicate, length-append, length-drop, drop-of-length-le}
+use lib.Seq.{sets, take-at, drop-at, drop-drop, length-take-le, take-add}
+use Rattle.address.specs.declared.Address.{Address}
+use Rattle.address.specs.declared.CheckedAddress.{CheckedAddress}
+use Rattle.address.specs.declared.CheckedAddress.the-variants.{At, Outside}
+use Rattle.address.specs.declared.Size.{Size}
+use Rattle.address.specs.declared.CheckedSize.{CheckedSize}
+use Rattle.address.specs.Numbers.{address, size}
+use Rattle.address.proofs.Checked.{address-at, address-outside, size-of, size-outside}
+use Rattle.regions.specs.declared.Kind.{Kind}
+use Rattle.regions.specs.declared.Kind.the-variants.{Memory, Taken}
+use Rattle.regions.specs.declared.Region.{Region}
+use Rattle.regions.specs.declared.State.the-variants.{Absent}
+use Rattle.regions.specs.Meaning.{at, total, top, top-is}
+use Rattle.regions.specs.Lists.{rises}
+use Rattle.regions.specs.Changes.{cut}
+use Rattle.regions.specs.Bytes.{readRegion, readRegions, tableBytes}
+use Rattle.regions.proofs.Rises.{rises-Rises}
+use Rattle.regions.proofs.Count.{sizes, total-le}
+use Rattle.regions.proofs.Good.{total-is-sizes}
+use Rattle.regions.proofs.Numbers.{Bytes}
+use Rattle.regions.proofs.Records.{regions-bytes-read, read-regions-length, read-regions-rest, read-regions-end}
+use Rattle.tables.specs.declared.block.Layout.{Layout}
+use Rattle.tables.specs.declared.block.Header.{Header}
+use Rattle.tables.specs.declared.block.Tally.{Tally}
+use Rattle.tables.specs.Block.{current, capacity, offset, blockLength, withList, tally, headerBytes, headerOf, blockBytes, readHeader, part, contents, good}
+use Rattle.tables.specs.Checks.{Small, withTally}
+use Rattle.tables.proofs.Blocks.{table-length, part-length, room, good-contents, good-length}
+use Rattle.tables.proofs.Reading.{good-header, good-tables}
+use Rattle.tables.proofs.Setting.{small-current, sets-header}
+use Rattle.address.specs.declared.CheckedSize.the-variants as Size
+
+-- ---- by the kind of table
+
+module _ (L : Layout) (k : Kind) where
+  pub memory-start : k ≡ Memory → 80 ≡ offset L k
+  unfolding offset
+  memory-start e = rw e
+
+  pub taken-start : k ≡ Taken → 80 + 24 * L .memory ≡ offset L k
+  unfolding offset
+  taken-start e = rw e
+
+  pub memory-capacity : k ≡ Memory → L .memory ≡ capacity L k
+  unfolding capacity
+  memory-capacity e = rw e
+
+  pub taken-capacity : k ≡ Taken → L .taken ≡ capacity L k
+  unfolding capacity
+  taken-capacity e = rw e
+
+module _ (h : Header) (k : Kind) (t : Tally) where
+  pub memory-tally : k ≡ Memory → record { memory = t; taken = h .taken; limit = h .limit; direction = h .direction } ≡ withTally h k t
+  memory-tally e = rw e
+
+  pub taken-tally : k ≡ Taken → record { memory = h .memory; taken = t; limit = h .limit; direction = h .direction } ≡ withTally h k t
+  taken-tally e = rw e
+
+-- ---- a whole table
+
+-- records copied, and zeros behind them
+pub table-stored : (t s x y : List ℕ) (n : ℕ) → Bytes s → 24 * n ≤ length t → 24 * n ≤ length s → length t ≡ 24 * (length t / 24)
+    → x ≡ take (24 * n) s ++ drop (24 * n) t → y ≡ take (24 * n) x ++ replicate (length x - 24 * n) 0 → y ≡ tableBytes (length t / 24) (readRegions n s)
+unfolding tableBytes
+table-stored t s x y n bs h k e p q =
+    let m : length (take (24 * n) s) ≡ 24 * n = length-take-le (24 * n) s k in
+    let f : take (24 * n) x ≡ take (24 * n) s = rw p (take-at (take (24 * n) s) (drop (24 * n) t) (24 * n) m) in
+    let l : length x ≡ length t = rw p (simp (length-append, length-drop) (omega arith)) in
+    let z : length x - 24 * n ≡ 24 * (length t / 24 - n) = omega arith in
+    rw (q, f, z, regions-bytes-read n s bs k, read-regions-length)
+
+-- ---- a table's total
+
+module _ (l : List ℕ) (n : ℕ) (rising : rises 0 Absent top (readRegions n l) ≡ true) where
+  sizes-total : total (at (readRegions n l)) top ≡ sizes (readRegions n l)
+  sizes-total = total-is-sizes (readRegions n l) (rises-Rises 0 Absent top (readRegions n l) rising)
+
+  pub sum-start : 0 + sizes (readRegions (n - 0) (drop (24 * 0) l)) ≡ sizes (readRegions n l)
+  sum-start = rw sub-zero (omega arith)
+
+  module _ (i : ℕ) (sum : Size) (inv : sum .0 + sizes (readRegions (n - i) (drop (24 * i) l)) ≡ sizes (readRegions n l)) where
+    pub sum-end : n ≤ i → sum .0 ≡ total (at (readRegions n l)) top
+    unfolding sizes
+    sum-end h =
+        let z : sizes (readRegions (n - i) (drop (24 * i) l)) ≡ 0 = rw (read-regions-end i n (drop (24 * i) l) h) in
+        omega (arith, sizes-total)
+
+    module _ (r : Region) (h : i < n) (e : r ≡ readRegion (drop (24 * i) l)) (x : CheckedSize) (q : x ≡ size (sum .0 + r .size .0)) where
+      next : sum .0 + r .size .0 + sizes (readRegions (n - (i + 1)) (drop (24 * (i + 1)) l)) ≡ sizes (readRegions n l)
+      unfolding sizes
+      next =
+          let s : readRegions (n - i) (drop (24 * i) l) ≡ r ∷ readRegions (n - (i + 1)) (drop (24 * (i + 1)) l) = rw e (read-regions-rest i n l h) in
+          omega (arith, ap sizes s)
+
+      pub sum-past : x ≡ Size.Outside → sum .0 ≡ total (at (readRegions n l)) top
+      sum-past f = absurd (omega (arith, next, size-outside (sum .0 + r .size .0) x q f, sizes-total, total-le (at (readRegions n l)) top, top-is))
+
+      pub sum-next : (s : Size) → x ≡ Size.Of s → s .0 + sizes (readRegions (n - (i + 1)) (drop (24 * (i + 1)) l)) ≡ sizes (readRegions n l)
+      sum-next s f = omega (arith, next, size-of (sum .0 + r .size .0) x s q f .0)
+
+-- ---- a table of a block
+
+module _ (L : Layout) (b : List ℕ) (g : good L b ≡ true) where
+  len : length b ≡ blockLength L
+  len = good-length L b g
+
+  memory-length : length (tableBytes (L .memory) (contents L b .memory)) ≡ 24 * L .memory
+  unfolding capacity
+  memory-length = table-length (L .memory) (contents L b .memory) (room L (contents L b) (good-contents L b g) Memory)
+
+  tables : drop 80 b ≡ tableBytes (L .memory) (contents L b .memory) ++ tableBytes (L .taken) (contents L b .taken)
+  unfolding capacity
+  tables = good-tables L b g
+
+  head-length : length (take 80 b) ≡ 80
+  head-length = length-take-le 80 b (omega (arith, len))
+
+  -- what stands behind the header of a block with another list in one table
+  behind : (k : Kind) (xs : List Region) → drop 80 (take (offset L k) b ++ (tableBytes (capacity L k) xs ++ drop (offset L k + 24 * capacity L k) b))
+      ≡ tableBytes (capacity L Memory) (withList (contents L b) k xs .memory) ++ tableBytes (capacity L Taken) (withList (contents L b) k xs .taken)
+  unfolding capacity offset
+  behind Memory xs =
+      let d : drop (80 + 24 * L .memory) b ≡ tableBytes (L .taken) (contents L b .taken) =
+      sym (drop-drop (24 * L .memory) 80 b) ∙ ap (drop (24 * L .memory)) tables
+      ∙ drop-at (tableBytes (L .memory) (contents L b .memory)) (tableBytes (L .taken) (contents L b .taken)) (24 * L .memory) memory-length in
+      rw d (drop-at (take 80 b) (tableBytes (L .memory) xs ++ tableBytes (L .taken) (contents L b .taken)) 80 head-length)
+  behind Taken xs =
+      let m : ℕ = 24 * L .memory in
+      let t : List ℕ = tableBytes (L .memory) (contents L b .memory) in
+      let x : List ℕ = tableBytes (L .taken) xs in
+      let e : take (80 + m) b ≡ take 80 b ++ t =
+      take-add 80 m b ∙ ap (λ (y : List ℕ). take 80 b ++ take m y) tables
+      ∙ ap (λ (y : List ℕ). take 80 b ++ y) (take-at t (tableBytes (L .taken) (contents L b .taken)) m memory-length) in
+      let o : length b ≤ 80 + m + 24 * L .taken = omega (arith, len) in
+      rw (e, drop-of-length-le b o, append-nil, append-assoc) (drop-at (take 80 b) (t ++ x) 80 head-length)
+
+  pub stored-room : (k : Kind) (x : List ℕ) → length x ≡ 24 * capacity L k
+      → 80 ≤ length (take (offset L k) b ++ (x ++ drop (offset L k + 24 * capacity L k) b))
+  unfolding capacity offset
+  stored-room Memory x e = simp (length-append, length-drop) (omega (arith, head-length))
+  stored-room Taken x e =
+      simp (length-append, length-drop) (omega (arith, length-take-le (80 + 24 * L .memory) b (omega (arith, len))))
+
+module _ (L : Layout) (small : Small L) (b : List ℕ) (bs : Bytes b) (g : good L b ≡ true) where
+  -- the header with the new list's tally
+  pub tallied : (k : Kind) (xs : List Region) → withTally (readHeader b) k (tally xs) ≡ headerOf (withList (contents L b) k xs)
+  tallied Memory xs = ap (λ (h : Header). withTally h Memory (tally xs)) (good-header L small b bs g)
+  tallied Taken xs = ap (λ (h : Header). withTally h Taken (tally xs)) (good-header L small b bs g)
+
+  -- a table stored in its part, and the header written anew
+  pub list-stored : (k : Kind) (xs : List Region) → length xs ≤ capacity L k → (h : Header) → h ≡ readHeader b → (t : Tally) → t ≡ tally xs → (y z : List ℕ)
+      → y ≡ take (offset L k) b ++ (tableBytes (capacity L k) xs ++ drop (offset L k + 24 * capacity L k) b)
+      → z ≡ sets y 0 (headerBytes L (withTally h k t)) → z ≡ blockBytes L (withList (contents L b) k xs)
+  unfolding blockBytes
+  list-stored k xs n h e t f y z p q =
+      let r : 80 ≤ length y = rw p (stored-room L b g k (tableBytes (capacity L k) xs) (table-length (capacity L k) xs n)) in
+      let w : withTally h k t ≡ headerOf (withList (contents L b) k xs) = rw (e, f) (tallied k xs) in
+      q ∙ sets-header L (withTally h k t) y r
+      ∙ ap₂ (λ (u v : List ℕ). u ++ v) (ap (headerBytes L) w) (ap (drop 80) p ∙ behind L b g k xs)
+
+-- ---- where the tables of a block stand now
+
+pub offset-small : (k : Kind) → offset current k ≤ 3152
+unfolding offset
+offset-small Memory = omega arith
+offset-small Taken = omega arith
+
+pub capacity-small : (k : Kind) → capacity current k ≡ 128
+unfolding capacity
+capacity-small Memory = refl
+capacity-small Taken = refl
+
+pub start-bound : (l : Layout) (k : Kind) (n : ℕ) → l ≡ current → n ≡ offset l k → n ≤ 3152
+start-bound l k n e f = omega (arith, f ∙ ap (λ (x : Layout). offset x k) e, offset-small k)
+
+pub capacity-now : (l : Layout) (k : Kind) (m : ℕ) → l ≡ current → m ≡ capacity l k → m ≡ 128
+capacity-now l k m e f = f ∙ ap (λ (x : Layout). capacity x k) e ∙ capacity-small k
+
+pub start-now : (l : Layout) (k : Kind) (n : ℕ) → l ≡ current → n ≡ offset l k → n ≡ offset current k
+start-now l k n e f = f ∙ ap (λ (x : Layout). offset x k) e
+
+pub span-end : (l : Layout) (k : Kind) (n m : ℕ) → l ≡ current → n ≡ offset l k → m ≡ capacity l k → n + 24 * m ≡ offset current k + 24 * capacity current k
+span-end l k n m e f g = rw (f, g, e)
+
+pub cut-past : (a : Address) (s : Size) (x : CheckedAddress) → x ≡ address (a .0 + s .0) → x ≡ Outside → 18446744073709551615 ≡ cut (a .0) (s .0)
+cut-past a s x q e = omega (arith, address-outside (a .0 + s .0) x q e, top-is)
+
+pub cut-at : (a : Address) (s : Size) (x : CheckedAddress) (e : Address) → x ≡ address (a .0 + s .0) → x ≡ At e → e .0 ≡ cut (a .0) (s .0)
+cut-at a s x e q f =
+    let m = address-at (a .0 + s .0) x e q f in
+    omega (arith, top-is)
+
+pub span-le : (k : Kind) (e : ℕ) (b : List ℕ) → good current b ≡ true → e ≡ offset current k + 24 * capacity current k → e ≤ length b
+unfolding offset capacity
+span-le Memory e b g q = omega (arith, good-length current b g)
+span-le Taken e b g q = omega (arith, good-length current b g)
+
+-- the part of a block where a table stands
+pub span-part : (k : Kind) (a e : ℕ) (b : List ℕ) → good current b ≡ true → a ≡ offset current k → e ≡ offset current k + 24 * capacity current k
+    → take (e - a) (drop a b) ≡ part current k b
+span-part k a e b g p q =
+    let z : e - a ≡ 24 * capacity current k = omega arith in
+    rw (z, p)
+
+pub span-room : (k : Kind) (a e : ℕ) (b : List ℕ) → good current b ≡ true → a ≡ offset current k → e ≡ offset current k + 24 * capacity current k
+    → length (take (e - a) (drop a b)) ≡ 24 * capacity current k
+span-room k a e b g p q = ap (length {A = ℕ}) (span-part k a e b g p q) ∙ part-length current b (good-length current b g) k
+
+-- a list stored in a table's part of a good block, and the header written anew
+module _ (b : List ℕ) (bs : Bytes b) (g : good current b ≡ true) (k : Kind) (a e : ℕ) (ea : a ≡ offset current k) (ee : e ≡ offset current k + 24 * capacity current k)
+    (xs : List Region) (x : List ℕ) (px : x ≡ tableBytes (length (take (e - a) (drop a b)) / 24) xs) where
+  put-back : take a b ++ (x ++ drop (e - a) (drop a b)) ≡ take (offset current k) b ++ (tableBytes (capacity current k) xs ++ drop (offset current k + 24 * capacity current k) b)
+  put-back =
+      let n : length (take (e - a) (drop a b)) / 24 ≡ capacity current k = omega (arith, span-room k a e b g ea ee) in
+      let z : e - a ≡ 24 * capacity current k = omega arith in
+      rw (px, n, z, drop-drop, ea)
+
+  pub block-stored : (n : ℕ) → n ≡ length xs → n ≤ capacity current k → (own : Header) → own ≡ readHeader b → (t : Size) → t .0 ≡ total (at xs) top
+      → (l : Layout) → l ≡ current → (h : Header) → h ≡ withTally own k (record { count = n; total = t }) → (z : List ℕ)
+      → z ≡ sets (take a b ++ (x ++ drop (e - a) (drop a b))) 0 (headerBytes l h) → z ≡ blockBytes current (withList (contents current b) k xs)
+  block-stored n en ln own eo t et l el h eh z ez =
+      let f : record { count = n; total = t } ≡ tally xs = λ i. record { count = en i; total = record { 0 = et i } } in
+      let r : length xs ≤ capacity current k = omega arith in
+      list-stored current small-current b bs g k xs r own eo (record { count = n; total = t }) f _ z put-back (ez ∙ rw (el, eh))

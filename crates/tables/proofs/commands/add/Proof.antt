@@ -1,0 +1,51 @@
+-- `tables::commands::add` meets its contract.
+use Rattle.tables.proofs.Commanding.{good-here, add-bad, add-tag, add-good}
+use Rattle.tables.proofs.Setting.{small-layout}
+use borrow.Author.Needs.{needs}
+use Rattle.tables.proofs.commands.add.Statement.{statement}
+use Rattle.tables.proofs.commands.add.Tie as tie
+
+current-layout-requires : tie.Need-current-layout-requires
+current-layout-requires c κs = search needs
+
+block-good-requires : tie.Need-block-good-requires
+block-good-requires c κs = search (small-layout, needs)
+
+same-length : tie.Need-same-length
+same-length c = search needs
+
+returns : tie.Need-returns
+returns c = search (add-bad, needs)
+
+legal-requires : tie.Need-legal-requires
+legal-requires c κs = search needs
+
+same-length-2 : tie.Need-same-length-2
+same-length-2 c = search needs
+
+returns-2 : tie.Need-returns-2
+returns-2 c = search (add-tag, needs)
+
+change-range-requires : tie.Need-change-range-requires
+change-range-requires c κs = search (good-here, needs)
+
+same-length-3 : tie.Need-same-length-3
+same-length-3 c = search needs
+
+returns-3 : tie.Need-returns-3
+returns-3 c = search (add-good, needs)
+
+pub add-spec : {M : Type 1} → statement M
+add-spec =
+    tie.close
+    (tie.spec
+    current-layout-requires
+    block-good-requires
+    same-length
+    returns
+    legal-requires
+    same-length-2
+    returns-2
+    change-range-requires
+    same-length-3
+    returns-3)

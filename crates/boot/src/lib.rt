@@ -2,8 +2,11 @@
 use address::Address;
 use address::Size;
 use regions::Tag;
+use search::Query;
 ghost use mathlib.Core.Path.{_≡_};
 ghost use Rattle.tables.specs.Block.{current};
+ghost use Rattle.search.specs.Search.{query};
+ghost use Rattle.search.specs.Answers.{answer, find, nextFree, allocate};
 ghost use Rattle.tables.specs.Commands.{outcome, fresh, set, add, remove, mark, unmark, reserve, free, trim};
 
 // Writes a fresh block over any 6,224 bytes.
@@ -68,4 +71,66 @@ pub extern "C" fn memblock_free(block: &mut [u8], base: u64, size: u64) -> u32
     ensures { λ r. ⌜ outcome r (now (block .exit)) ≡ free current base size (now (block .entry)) ⌝ }
 {
     tables::commands::free(block, Address(base), Size(size))
+}
+
+// Rounds each memory record's base up and its end down by an alignment; one of which nothing is left goes.
+#[no_mangle]
+pub extern "C" fn memblock_trim(block: &mut [u8], alignment: u64) -> u32
+    ensures { λ r. ⌜ outcome r (now (block .exit)) ≡ trim current alignment (now (block .entry)) ⌝ }
+{
+    tables::commands::trim(block, Size(alignment))
+}
+
+// Writes the lowest free address at or above `from` of the node asked for, and the end of its free run. The block stays.
+#[no_mangle]
+pub extern "C" fn memblock_next_free(block: &[u8], from: u64, node: u32, slip: &mut [u8]) -> u32
+    ensures { λ r. ⌜ answer r (now (block .entry)) (now (slip .exit)) ≡ nextFree current from node (now (block .entry)) (now (slip .entry)) ⌝ }
+{
+    search::find::next_free(block, Address(from), node, slip)
+}
+
+// Writes the address found and the end of its range. The block stays.
+#[no_mangle]
+pub extern "C" fn memblock_find(
+    block: &[u8],
+    size: u64,
+    alignment: u64,
+    start: u64,
+    end: u64,
+    node: u32,
+    slip: &mut [u8],
+) -> u32
+    ensures { λ r. ⌜ answer r (now (block .entry)) (now (slip .exit)) ≡ find current (query size alignment start end node) (now (block .entry)) (now (slip .entry)) ⌝ }
+{
+    let q = Query {
+        size: Size(size),
+        align: Size(alignment),
+        start: Address(start),
+        end: Address(end),
+        node,
+    };
+    search::find::find(block, q, slip)
+}
+
+// Reserves the address that find finds, and writes it and the end of its range.
+#[no_mangle]
+pub extern "C" fn memblock_allocate(
+    block: &mut [u8],
+    size: u64,
+    alignment: u64,
+    start: u64,
+    end: u64,
+    node: u32,
+    slip: &mut [u8],
+) -> u32
+    ensures { λ r. ⌜ answer r (now (block .exit)) (now (slip .exit)) ≡ allocate current (query size alignment start end node) (now (block .entry)) (now (slip .entry)) ⌝ }
+{
+    let q = Query {
+        size: Size(size),
+        align: Size(alignment),
+        start: Address(start),
+        end: Address(end),
+        node,
+    };
+    search::allocate::allocate(block, q, slip)
 }

@@ -3,10 +3,11 @@ use Prim.Native.Nat.{ℕ, _+_, _%_, _≤_, _<_}
 use mathlib.Core.Path.{_≡_, refl, sym, ap, _∙_}
 use mathlib.Core.Bool.{Bool, true, false, _&&_, _||_}
 use mathlib.Core.List.{List, _∷_}
+use mathlib.Core.Option.{some}
 use mathlib.Core.Logic.{_⊎_, inl, inr}
 use native.Mathlib.Omega.{arith}
 use lib.Dec.{leb, eqb}
-use borrow.Author.Tests.{leb-true, le-leb, eq-eqb, ne-eqb}
+use borrow.Author.Tests.{leb-true, le-leb, eq-eqb, ne-eqb, eqb-true, eqb-false}
 use Rattle.address.proofs.Tests.{both, and, le-or-lt}
 use Rattle.regions.specs.declared.Tag.{Tag}
 use Rattle.regions.specs.declared.Region.{Region}
@@ -33,7 +34,7 @@ or-true true = refl
 or-true false = refl
 
 -- where a stretch of one tag lies in a rising list, it lies in one region
-in-one : (node size a : ℕ) (t : Tag) {c n : ℕ} {v : State} {xs : List Region} → Rises c v n xs → 0 < size → asked node (t .node) ≡ true
+pub in-one : (node size a : ℕ) (t : Tag) {c n : ℕ} {v : State} {xs : List Region} → Rises c v n xs → 0 < size → asked node (t .node) ≡ true
     → ((b : ℕ) → a ≤ b → b < a + size → at xs b ≡ Present t) → inOne node size a xs ≡ true
 unfolding inOne at
 in-one node size a t (done l) s k h = let e = h a (omega arith) (omega arith) in let z : _≡_ {A = ℕ} 0 1 = cc in absurd (omega arith)
@@ -58,12 +59,12 @@ in-one node size a t (next {r = r} {rs = rs} f w) s k h = go (le-or-lt (r .base 
         let z : _≡_ {A = ℕ} 0 1 = cc in absurd (omega arith)
 
 -- and what lies in one region is a stretch of one tag, from c on and below n
-record Stretch (xs : List Region) (node size a c n : ℕ) : Type 0 where
-  low : c ≤ a
-  high : a + size ≤ n
-  same : OneTag (at xs) node size a
+pub record Stretch (xs : List Region) (node size a c n : ℕ) : Type 0 where
+  pub low : c ≤ a
+  pub high : a + size ≤ n
+  pub same : OneTag (at xs) node size a
 
-one-in : (node size a : ℕ) {c n : ℕ} {v : State} {xs : List Region} → Rises c v n xs → inOne node size a xs ≡ true → Stretch xs node size a c n
+pub one-in : (node size a : ℕ) {c n : ℕ} {v : State} {xs : List Region} → Rises c v n xs → inOne node size a xs ≡ true → Stretch xs node size a c n
 unfolding inOne
 one-in node size a (done l) e = let z : _≡_ {A = ℕ} 0 1 = cc in absurd (omega arith)
 one-in node size a {c} {n} {v} (next {r = r} {rs = rs} f w) e = go (holds node size a r) refl e (one-in node size a w)
@@ -85,10 +86,10 @@ one-in node size a {c} {n} {v} (next {r = r} {rs = rs} f w) e = go (holds node s
         record { low = omega (arith, s .low); high = s .high; same = o }
 
 -- the size addresses from a lie in one run of f's shortest list exactly when f gives them all one tag, of the node asked for
-module _ (f : Meaning) (node size a : ℕ) (some : 0 < size) where
+module _ (f : Meaning) (node size a : ℕ) (pos : 0 < size) where
   pub in-one-run : a + size ≤ top → OneTag f node size a → inOne node size a (shortest f top) ≡ true
   in-one-run h o =
-      in-one node size a (o .tag) (canonical-shortest f top) some (o .right) (λ b i j. at-shortest f top b (omega arith) ∙ o .all b i j)
+      in-one node size a (o .tag) (canonical-shortest f top) pos (o .right) (λ b i j. at-shortest f top b (omega arith) ∙ o .all b i j)
 
   pub one-run-in : inOne node size a (shortest f top) ≡ true → (a + size ≤ top) × OneTag f node size a
   one-run-in e =
@@ -100,15 +101,15 @@ module _ (f : Meaning) (node size a : ℕ) (some : 0 < size) where
 
 -- ---- find
 
--- nothing past the top is eligible, so a search below the top looks at all that is
-pub eligible-below : (q : Query) (s : Contents) (a : ℕ) → 0 < q .size .0 → eligible q (runsOf s) a ≡ true → a < top
+-- what is eligible ends at the top or below, so a search below the top looks at all that is
+pub eligible-below : (q : Query) (s : Contents) (a : ℕ) → 0 < q .size .0 → eligible q (runsOf s) a ≡ true → a + q .size .0 ≤ top
 unfolding eligible freeRuns
 eligible-below q s a h e =
     let w : Bool = leb (q .start .0) a && leb (a + q .size .0) (q .end .0) in
     let p = both (eqb (a % q .align .0) 0) (w && inOne (q .node) (q .size .0) a (runsOf s)) e in
     let r = both w (inOne (q .node) (q .size .0) a (runsOf s)) (p .1) in
     let o = one-run-in (free (at (s .memory)) (at (s .taken))) (q .node) (q .size .0) a h (r .1) in
-    omega (arith, o .0)
+    o .0
 
 -- bottom-up, find gives the lowest eligible address, and none exactly when there is none
 pub found-lowest : (s : Contents) (q : Query) → s .direction ≡ 1 → Gives (eligible (window (s .limit) q) (runsOf s)) (λ b a. b < a) top (found s q)
@@ -119,3 +120,16 @@ found-lowest s q e = rw (eq-eqb (s .direction) 1 e) (lowest-gives (eligible (win
 pub found-highest : (s : Contents) (q : Query) → (s .direction ≡ 1 → ⊥) → Gives (eligible (window (s .limit) q) (runsOf s)) (λ b a. a < b) top (found s q)
 unfolding found
 found-highest s q e = rw (ne-eqb (s .direction) 1 e) (highest-gives (eligible (window (s .limit) q) (runsOf s)) top)
+
+-- what it gives is eligible
+pub found-eligible : (s : Contents) (q : Query) (a : ℕ) → found s q ≡ some a → eligible (window (s .limit) q) (runsOf s) a ≡ true
+found-eligible s q a e = go (eqb (s .direction) 1) refl
+  where
+    given : (beyond : ℕ → ℕ → Type 0) → Gives (eligible (window (s .limit) q) (runsOf s)) beyond top (found s q) → eligible (window (s .limit) q) (runsOf s) a ≡ true
+    given beyond g =
+        let h : Gives (eligible (window (s .limit) q) (runsOf s)) beyond top (some a) = rw e at g in
+        h .0
+
+    go : (t : Bool) → eqb (s .direction) 1 ≡ t → eligible (window (s .limit) q) (runsOf s) a ≡ true
+    go true d = given (λ b x. b < x) (found-lowest s q (eqb-true (s .direction) 1 d))
+    go false d = given (λ b x. x < b) (found-highest s q (eqb-false (s .direction) 1 d))

@@ -1,2 +1,14 @@
 pub mod Extremes
 pub mod Eligible
+pub mod Stretches
+pub mod Fits
+pub mod Runs
+pub mod Twins
+pub mod WalkLow
+pub mod Fall
+pub mod WalkHigh
+pub mod StepsLow
+pub mod StepsHigh
+pub mod InBlock
+pub mod Answering
+pub mod Allocating

@@ -10,6 +10,11 @@ use Rattle.regions.specs.Free.{freeRuns}
 use Rattle.tables.specs.Block.{Contents}
 use Rattle.search.specs.declared.Query.{Query}
 
+-- what a call asks for, by its numbers
+abbrev pub query : ℕ → ℕ → ℕ → ℕ → ℕ → Query
+query size align start end node =
+    record { size = record { 0 = size }; align = record { 0 = align }; start = record { 0 = start }; end = record { 0 = end }; node = node }
+
 -- ---- the lowest and the highest number below n at which p holds
 
 abbrev pub orElse : {A : Type 0} → Option A → Option A → Option A

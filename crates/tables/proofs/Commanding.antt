@@ -1,16 +1,21 @@
 -- The commands on a range, answer by answer. Assumes nothing.
-use Prim.Native.Nat.{ℕ}
+use Prim.Native.Nat.{ℕ, _<_}
 use mathlib.Core.Path.{_≡_, sym, _∙_}
 use mathlib.Core.Bool.{Bool, true, false, not}
 use mathlib.Core.List.{List}
+use native.Mathlib.Omega.{arith}
+use lib.Pow.{pow-pos}
 use borrow.Author.Tests.{not-true, not-false}
+use Rattle.address.specs.Numbers.{powerOfTwo}
+use Rattle.address.proofs.Powers.{power-is}
 use Rattle.regions.specs.declared.Kind.the-variants.{Memory, Taken}
 use Rattle.regions.specs.declared.Tag.{Tag}
 use Rattle.regions.specs.declared.Change.the-variants.{Fill, Clear, Mark, Unmark}
 use Rattle.regions.specs.Lists.{legalTag}
+use Rattle.regions.specs.Trim.{trimmedList}
 use Rattle.tables.specs.declared.block.Layout.{Layout}
-use Rattle.tables.specs.Block.{current, good}
-use Rattle.tables.specs.Commands.{Outcome, outcome, unless, changeRange, tag, add, remove, mark, unmark, reserve, free}
+use Rattle.tables.specs.Block.{current, withList, blockBytes, contents, good}
+use Rattle.tables.specs.Commands.{Outcome, outcome, unless, changeRange, tag, add, remove, mark, unmark, reserve, free, trim}
 
 module _ (l : Layout) (is : l ≡ current) (b : List ℕ) (g : Bool) (q : g ≡ good l b) where
   pub good-now : (t : Bool) → g ≡ t → good current b ≡ t
@@ -60,3 +65,26 @@ module _ (base size : ℕ) (b : List ℕ) (o : Outcome) where
   pub free-is : o ≡ unless (good current b) 1 b (changeRange current Taken Clear base size b) → o ≡ free current base size b
   unfolding free
   free-is e = e
+
+-- ---- trim
+
+-- a power of two is not 0
+pub power-some : (k : ℕ) (x : Bool) → x ≡ powerOfTwo k → not x ≡ false → 0 < k
+power-some k x e t =
+    let p = power-is 64 k (sym e ∙ not-false x t) in
+    omega (arith, pow-pos (p .0), p .2)
+
+module _ (l : Layout) (is : l ≡ current) (b : List ℕ) (g : Bool) (q : g ≡ good l b) (k : ℕ) where
+  pub trim-bad : not g ≡ true → outcome 1 b ≡ trim current k b
+  unfolding trim
+  trim-bad n = rw (good-now l is b g q false (not-true g n))
+
+  module _ (n : not g ≡ false) (x : Bool) (p : x ≡ powerOfTwo k) where
+    pub trim-power : not x ≡ true → outcome 3 b ≡ trim current k b
+    unfolding trim
+    trim-power u = rw (good-here l is b g q n, ← p, not-true x u)
+
+    pub trim-good : not x ≡ false → (z : List ℕ) → z ≡ blockBytes current (withList (contents current b) Memory (trimmedList k (contents current b .memory)))
+        → outcome 0 z ≡ trim current k b
+    unfolding trim
+    trim-good u z e = rw (good-here l is b g q n, ← p, not-false x u, e)

@@ -15,3 +15,4 @@ pub mod Walking
 pub mod Storing
 pub mod Ranging
 pub mod Commanding
+pub mod Trimming

@@ -8,6 +8,7 @@ use lib.Dec.{leb, eqb}
 use lib.ListN.{length, take, drop}
 use borrow.Author.Tests.{le-leb, lt-leb, eqb-true}
 use Rattle.address.specs.declared.Address.{Address}
+use Rattle.address.specs.declared.Size.{Size}
 use Rattle.address.proofs.Tests.{both}
 use Rattle.regions.specs.declared.Kind.{Kind}
 use Rattle.regions.specs.declared.Kind.the-variants.{Memory, Taken}
@@ -21,9 +22,11 @@ use Rattle.regions.specs.Changes.{change, after, cut, changed}
 use Rattle.regions.specs.Bytes.{readRegions}
 use Rattle.regions.specs.Steps.{Weighs}
 use Rattle.regions.proofs.Records.{read-regions-length}
-use Rattle.regions.proofs.Rises.{Rises-rises}
+use Rattle.regions.proofs.Rises.{Canonical, Rises-rises}
 use Rattle.regions.proofs.RoundTrip.{canonical-shortest}
 use Rattle.regions.proofs.Good.{good-rises, good-legal}
+use Rattle.regions.proofs.Trim.{round-rises, round-length, trim-rounds}
+use Rattle.regions.specs.Trim.{roundEach, trimmedList}
 use Rattle.tables.specs.declared.block.Header.{Header}
 use Rattle.tables.specs.declared.block.Tally.{Tally}
 use Rattle.tables.specs.declared.change.Pushed.{Pushed}
@@ -119,3 +122,30 @@ module _ (b : List ℕ) (g : good current b ≡ true) (k : Kind) (a e : ℕ) (ea
             let m : length (changed c (base .0) size (listOf (contents current b) k)) ≤ capacity current k =
             omega (arith, holds-count l (capacity current k) (changed c (base .0) size (listOf (contents current b) k)) p w′ n f) in
             rw (le-leb (length (changed c (base .0) size (listOf (contents current b) k))) (capacity current k) m, q, list)
+
+-- ---- trim
+
+module _ (b : List ℕ) (g : good current b ≡ true) (a e : ℕ) (ea : a ≡ offset current Memory) (ee : e ≡ offset current Memory + 24 * capacity current Memory) (h : Header)
+    (eh : h ≡ readHeader b) (t : Tally) (et : t ≡ tallyOf h Memory) (k : Size) (pos : 0 < k .0) (n : ℕ) (l : List ℕ)
+    (w : readRegions n l ≡ roundEach (k .0) (readRegions (t .count) (take (e - a) (drop a b)))) where
+  rises-memory : Canonical top (contents current b .memory)
+  rises-memory = good-rises Memory (contents current b .memory) (lists-ok current (contents current b) (good-contents current b g) Memory)
+
+  list-rounded : readRegions n l ≡ roundEach (k .0) (contents current b .memory)
+  list-rounded = w ∙ ap (roundEach (k .0)) (list-is b g Memory a e ea ee h eh t et)
+
+  pub trim-room : n ≤ capacity current Memory
+  trim-room =
+      omega (
+        arith,
+        sym (read-regions-length n l) ∙ ap (length {A = Region}) list-rounded,
+        round-length (k .0) (contents current b .memory),
+        room current (contents current b) (good-contents current b g) Memory,
+      )
+
+  pub trim-rises : rises 0 Absent top (readRegions n l) ≡ true
+  trim-rises = rw list-rounded (Rises-rises (round-rises (k .0) pos rises-memory))
+
+  pub trim-done : (z : List ℕ) → z ≡ blockBytes current (withList (contents current b) Memory (readRegions n l))
+      → z ≡ blockBytes current (withList (contents current b) Memory (trimmedList (k .0) (contents current b .memory)))
+  trim-done z q = rw (trim-rounds (k .0) (contents current b .memory) pos rises-memory, ← list-rounded) q

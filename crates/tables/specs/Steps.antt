@@ -1,12 +1,13 @@
 -- A list of regions built up in a scratch table. Only inner contracts and proofs cite this module. Assumes nothing.
-use Prim.Native.Nat.{ℕ, suc, _*_, _≤_}
+use Prim.Native.Nat.{ℕ, suc, _*_, _-_, _≤_}
 use mathlib.Core.Path.{_≡_}
 use mathlib.Core.Bool.{true, cond}
 use mathlib.Core.List.{List, [], _∷_}
-use lib.Dec.{leb}
+use lib.Dec.{leb, ltb}
 use lib.ListN.{length}
+use Rattle.address.specs.Numbers.{up, down}
 use Rattle.regions.specs.declared.Region.{Region}
-use Rattle.regions.specs.Meaning.{end, top}
+use Rattle.regions.specs.Meaning.{region, end, top}
 use Rattle.regions.specs.declared.State.the-variants.{Absent}
 use Rattle.regions.specs.Lists.{rises}
 use Rattle.regions.specs.Bytes.{readRegions}
@@ -14,6 +15,8 @@ use Rattle.regions.specs.Steps.{Weighs}
 use Rattle.tables.specs.declared.change.Pushed.{Pushed}
 use Rattle.tables.specs.declared.change.Pushed.the-variants.{Count, Full}
 use Rattle.tables.specs.declared.change.Edit.{Edit}
+use Rattle.tables.specs.declared.trim.Rounded.{Rounded}
+use Rattle.tables.specs.declared.trim.Rounded.the-variants.{Left, Nothing}
 
 -- the answer for a list that is to stand where there is room for cap records
 unfoldable pub fitsIn : ℕ → List Region → Pushed
@@ -49,3 +52,14 @@ pub record Editable (e : Edit) : Type 0 where
   pub weighs : Weighs (e .change)
   pub low : e .lo .0 ≤ e .hi .0
   pub high : e .hi .0 ≤ top
+
+-- what trim leaves of a region
+unfoldable pub rounded : ℕ → Region → Rounded
+rounded align r =
+    let base = up (r .base .0) align in
+    let past = down (end r) align in
+    cond (ltb base past) (Left (region base (past - base) (r .tag))) Nothing
+
+abbrev pub leftOf : Rounded → List Region
+leftOf (Left r) = r ∷ []
+leftOf Nothing = []

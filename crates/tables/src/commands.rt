@@ -6,6 +6,7 @@ use crate::block::current_layout;
 use crate::block::get_header;
 use crate::block::put_header;
 use crate::range::change_range;
+use crate::range::trim_memory;
 use crate::table::put_zeros;
 use address::Address;
 use address::Size;
@@ -16,7 +17,7 @@ ghost use mathlib.Core.Path.{_≡_};
 ghost use Prim.Native.Nat.{_≤_};
 ghost use lib.ListN.{length};
 ghost use Rattle.tables.specs.Block.{current, good};
-ghost use Rattle.tables.specs.Commands.{outcome, unless, changeRange, fresh as freshOutcome, set as setOutcome, add as addOutcome, remove as removeOutcome, mark as markOutcome, unmark as unmarkOutcome, reserve as reserveOutcome, free as freeOutcome};
+ghost use Rattle.tables.specs.Commands.{outcome, unless, changeRange, fresh as freshOutcome, set as setOutcome, add as addOutcome, remove as removeOutcome, mark as markOutcome, unmark as unmarkOutcome, reserve as reserveOutcome, free as freeOutcome, trim as trimOutcome};
 ghost use Rattle.regions.specs.Steps.{Weighs};
 
 // Writes a fresh block over any bytes of the right length.
@@ -124,4 +125,18 @@ pub fn free(block: &mut [u8], base: Address, size: Size) -> u32
     ensures { λ r. ⌜ outcome r (now (block .exit)) ≡ freeOutcome current (base .0) (size .0) (now (block .entry)) ⌝ }
 {
     on_range(block, Kind::Taken, Change::Clear, base, size)
+}
+
+// Rounds each memory record's base up and its end down; one of which nothing is left goes.
+pub fn trim(block: &mut [u8], align: Size) -> u32
+    ensures { λ r. ⌜ outcome r (now (block .exit)) ≡ trimOutcome current (align .0) (now (block .entry)) ⌝ }
+{
+    if !block_good(block, current_layout()) {
+        return 1;
+    }
+    if !align.power_of_two() {
+        return 3;
+    }
+    trim_memory(block, align);
+    0
 }

@@ -4,3 +4,4 @@ pub mod change;
 pub mod commands;
 pub mod range;
 pub mod table;
+pub mod trim;

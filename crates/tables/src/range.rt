@@ -8,6 +8,7 @@ use crate::change::Pushed;
 use crate::change::change_list;
 use crate::table::store_table;
 use crate::table::total_of;
+use crate::trim::round_records;
 use address::Address;
 use address::CheckedAddress;
 use address::Size;
@@ -15,10 +16,12 @@ use regions::Change;
 use regions::Kind;
 ghost use mathlib.Core.Path.{_≡_};
 ghost use mathlib.Core.Bool.{true};
-ghost use Prim.Native.Nat.{_+_, _*_, _≤_};
+ghost use Prim.Native.Nat.{_+_, _*_, _<_, _≤_};
 ghost use lib.ListN.{length};
 ghost use Rattle.regions.specs.declared.State.the-variants.{Absent};
+ghost use Rattle.regions.specs.declared.Kind.the-variants.{Memory};
 ghost use Rattle.regions.specs.Meaning.{top};
+ghost use Rattle.regions.specs.Trim.{trimmedList};
 ghost use Rattle.regions.specs.Lists.{rises};
 ghost use Rattle.regions.specs.Changes.{cut};
 ghost use Rattle.regions.specs.Bytes.{readRegions};
@@ -91,4 +94,23 @@ pub fn change_range(block: &mut [u8], kind: Kind, change: Change, base: Address,
     };
     store_list(block, kind, &scratch, n);
     0
+}
+
+// Trims the memory table of a good block by an alignment.
+pub fn trim_memory(block: &mut [u8], align: Size)
+    requires { ⌜ (good current (now block) ≡ true) × (0 < align .0) ⌝ }
+    ensures { λ _. ⌜ now (block .exit) ≡ blockBytes current (withList (contents current (now (block .entry))) Memory (trimmedList (align .0) (contents current (now (block .entry)) .memory))) ⌝ }
+{
+    let span = table_span(Kind::Memory);
+    let start = span.start;
+    let end = span.end;
+    let tally = get_header(block).tally(Kind::Memory);
+    let mut scratch = [0u8; 3072];
+    let n = round_records(
+        &block[start..end],
+        tally.count as usize,
+        &mut scratch,
+        align,
+    );
+    store_list(block, Kind::Memory, &scratch, n);
 }

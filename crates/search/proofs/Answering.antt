@@ -1,0 +1,216 @@
+-- The checks of a search, and the answers of find and next free, one by one. Assumes nothing.
+use Prim.Native.Nat.{ℕ, _+_, _-_, _^_, _≤_, _<_}
+use mathlib.Core.Path.{_≡_, refl, sym, ap, _∙_}
+use mathlib.Core.Bool.{Bool, true, false, cond, not}
+use mathlib.Core.List.{List, [], _++_, append-nil}
+use mathlib.Core.Option.{Option, none, some}
+use native.Mathlib.Omega.{arith}
+use native.Mathlib.Nat.{pow-le-pow-right}
+use lib.Dec.{eqb, lit<}
+use lib.ListN.{length, take, drop, replicate, length-append}
+use lib.Seq.{sets, sets-eq, drop-length}
+use borrow.Author.Tests.{eq-eqb, ne-eqb, le-leb, lt-leb, eqb-false, not-true, not-false}
+use Rattle.address.specs.Numbers.{powerOfTwo}
+use Rattle.address.specs.declared.Address.{Address}
+use Rattle.address.proofs.Powers.{power-is, power-of}
+use Rattle.regions.specs.Meaning.{top-is}
+use Rattle.regions.specs.Bytes.{bytes}
+use Rattle.regions.proofs.Numbers.{bytes-length, sets-append}
+use Rattle.tables.specs.declared.block.Layout.{Layout}
+use Rattle.tables.specs.Block.{current, contents, good}
+use Rattle.search.specs.declared.Query.{Query}
+use Rattle.search.specs.declared.find.Asked.{Asked}
+use Rattle.search.specs.declared.find.Asked.the-variants.{Refused, Fine}
+use Rattle.search.specs.declared.fit.Found.{Found}
+use Rattle.search.specs.declared.fit.Found.the-variants.{At, Nothing}
+use Rattle.search.specs.declared.fit.Place.{Place}
+use Rattle.search.specs.declared.fit.Place.the-variants.{Here, Nowhere}
+use Rattle.search.specs.Search.{window, runsOf, runEnd, found, lowestFree}
+use Rattle.search.specs.Answers.{Answer, answer, refuse, slipOf, nodeKnown, asking, find, findAnswer, nextFree, nextFreeAnswer}
+use Rattle.search.specs.Steps.{foundOf, hitOf, placeOf, Ready, nextQuery, nextHit, checked}
+use Rattle.search.proofs.Eligible.{eligible-below, found-eligible}
+
+-- ---- the checks
+
+module _ (node : ℕ) where
+  pub known-low : node ≤ 63 → true ≡ nodeKnown node
+  known-low h = rw (le-leb node 63 h)
+
+  pub known-any : 63 < node → eqb node 4294967295 ≡ nodeKnown node
+  known-any h = rw (lt-leb node 63 h)
+
+module _ (L : Layout) (is : L ≡ current) (b : List ℕ) (q : Query) (g : Bool) (x : g ≡ good L b) where
+  good-now : (t : Bool) → g ≡ t → good current b ≡ t
+  good-now t e = rw (← is) (sym x ∙ e)
+
+  pub check-bad : not g ≡ true → Refused 1 ≡ checked q b
+  unfolding checked
+  check-bad h = rw (good-now false (not-true g h))
+
+  module _ (h : not g ≡ false) (k : Bool) (y : k ≡ nodeKnown (q .node)) where
+    pub check-node : not k ≡ true → Refused 2 ≡ checked q b
+    unfolding checked
+    check-node i = rw (good-now true (not-false g h), ← y, not-true k i)
+
+    module _ (i : not k ≡ false) (p : Bool) (z : p ≡ powerOfTwo (q .align .0)) where
+      pub check-power : not p ≡ true → Refused 3 ≡ checked q b
+      unfolding checked
+      check-power j = rw (good-now true (not-false g h), ← y, not-false k i, ← z, not-true p j)
+
+      module _ (j : not p ≡ false) where
+        pub check-size : q .size .0 ≡ 0 → Refused 4 ≡ checked q b
+        unfolding checked
+        check-size e = rw (good-now true (not-false g h), ← y, not-false k i, ← z, not-false p j, eq-eqb (q .size .0) 0 e)
+
+        pub check-fine : (q .size .0 ≡ 0 → ⊥) → Fine ≡ checked q b
+        unfolding checked
+        check-fine e = rw (good-now true (not-false g h), ← y, not-false k i, ← z, not-false p j, ne-eqb (q .size .0) 0 e)
+
+-- the checks as tests: on the block, the node, the alignment, and on a size of 0
+abbrev verdict : Bool → Bool → Bool → Bool → Asked
+verdict g k p z = cond g (cond k (cond p (cond z (Refused 4) Fine) (Refused 3)) (Refused 2)) (Refused 1)
+
+fine-is : (g k p z : Bool) → Fine ≡ verdict g k p z → ((g ≡ true) × (p ≡ true)) × (z ≡ false)
+fine-is false k p z e = let y : _≡_ {A = ℕ} 0 1 = cc in absurd (omega arith)
+fine-is true false p z e = let y : _≡_ {A = ℕ} 0 1 = cc in absurd (omega arith)
+fine-is true true false z e = let y : _≡_ {A = ℕ} 0 1 = cc in absurd (omega arith)
+fine-is true true true true e = let y : _≡_ {A = ℕ} 0 1 = cc in absurd (omega arith)
+fine-is true true true false e = ((refl, refl), refl)
+
+pub fine-ready : (b : List ℕ) (q : Query) (c : Asked) → c ≡ checked q b → c ≡ Fine → Ready b q
+unfolding checked
+fine-ready b q c e f =
+    let t = fine-is (good current b) (nodeKnown (q .node)) (powerOfTwo (q .align .0)) (eqb (q .size .0) 0) (sym f ∙ e) in
+    let z = eqb-false (q .size .0) 0 (t .1) in
+    let w = power-is 64 (q .align .0) (t .0 .1) in
+    let o : 1 ≤ 2 ^ w .0 = pow-le-pow-right {n = 2} (lit< tt) {i = 0} {j = w .0} (omega arith) in
+    record { good = t .0 .0; size = omega arith; align = omega (arith, o, w .2) }
+
+-- ---- the slip
+
+pub slip-cleared : (s z : List ℕ) → length s ≡ 16 → z ≡ take 0 s ++ replicate (length s - 0) 0 → z ≡ replicate 16 0
+slip-cleared s z l e = let n : length s - 0 ≡ 16 = omega arith in e ∙ rw n
+
+pub slip-written : (s x y : List ℕ) (a e : ℕ) → length s ≡ 16 → x ≡ sets s 0 (bytes 8 a) → y ≡ sets x 8 (bytes 8 e) → y ≡ slipOf a e
+slip-written s x y a e l f g =
+    let n : length (slipOf a e) ≡ 16 = length-append (bytes 8 a) (bytes 8 e) ∙ omega (arith, bytes-length 8 a, bytes-length 8 e) in
+    let d : drop (0 + length (slipOf a e)) s ≡ [] = rw (n, ← l) (drop-length s) in
+    let h : sets s 0 (slipOf a e) ≡ slipOf a e = sets-eq (slipOf a e) s 0 (omega arith) ∙ rw d (append-nil (slipOf a e)) in
+    g ∙ rw f (sym (sets-append s 0 (bytes 8 a) (bytes 8 e) ∙ rw bytes-length)) ∙ h
+
+-- ---- the checks and the answer
+
+module _ (b s : List ℕ) (q : Query) (l : length s ≡ 16) (c : Asked) (is : c ≡ checked q b) (a : Answer) where
+  pub refused : (n : ℕ) → c ≡ Refused n → refuse n b ≡ asking current q b s a
+  unfolding checked
+  refused n f =
+      rw (eq-eqb (length s) 16 l) (go (good current b) (nodeKnown (q .node)) (powerOfTwo (q .align .0)) (eqb (q .size .0) 0) (sym f ∙ is))
+    where
+      go : (g k p z : Bool) → Refused n ≡ verdict g k p z
+          → refuse n b ≡ cond g (cond k (cond p (cond (not z) a (refuse 4 b)) (refuse 3 b)) (refuse 2 b)) (refuse 1 b)
+      go false k p z e = let m : n ≡ 1 = cc in ap (λ (x : ℕ). refuse x b) m
+      go true false p z e = let m : n ≡ 2 = cc in ap (λ (x : ℕ). refuse x b) m
+      go true true false z e = let m : n ≡ 3 = cc in ap (λ (x : ℕ). refuse x b) m
+      go true true true true e = let m : n ≡ 4 = cc in ap (λ (x : ℕ). refuse x b) m
+      go true true true false e = let y : _≡_ {A = ℕ} 0 1 = cc in absurd (omega arith)
+
+  pub fine : c ≡ Fine → a ≡ asking current q b s a
+  unfolding checked
+  fine f = rw (eq-eqb (length s) 16 l) (go (good current b) (nodeKnown (q .node)) (powerOfTwo (q .align .0)) (eqb (q .size .0) 0) (sym f ∙ is))
+    where
+      go : (g k p z : Bool) → Fine ≡ verdict g k p z → a ≡ cond g (cond k (cond p (cond (not z) a (refuse 4 b)) (refuse 3 b)) (refuse 2 b)) (refuse 1 b)
+      go false k p z e = let y : _≡_ {A = ℕ} 0 1 = cc in absurd (omega arith)
+      go true false p z e = let y : _≡_ {A = ℕ} 0 1 = cc in absurd (omega arith)
+      go true true false z e = let y : _≡_ {A = ℕ} 0 1 = cc in absurd (omega arith)
+      go true true true true e = let y : _≡_ {A = ℕ} 0 1 = cc in absurd (omega arith)
+      go true true true false e = refl
+
+-- ---- find
+
+-- what is found ends at 2^64 - 1 or below
+pub found-ends : (b : List ℕ) (q : Query) → Ready b q → (f : Found) → f ≡ foundOf (found (contents current b) q) → (a : Address) → f ≡ At a
+    → a .0 + q .size .0 < 18446744073709551616
+found-ends b q p f e a g = go (found (contents current b) q) refl (sym g ∙ e)
+  where
+    go : (o : Option ℕ) → found (contents current b) q ≡ o → At a ≡ foundOf o → a .0 + q .size .0 < 18446744073709551616
+    go none h i = let z : _≡_ {A = ℕ} 0 1 = cc in absurd (omega arith)
+    go (some x) h i =
+        let s = contents current b in
+        let y : a ≡ record { 0 = x } = cc in
+        rw y (omega (arith, eligible-below (window (s .limit) q) s x (p .size) (found-eligible s q x h), top-is))
+
+module _ (b s : List ℕ) (q : Query) where
+  pub find-no-slip : (length s ≡ 16 → ⊥) → answer 8 b s ≡ find current q b s
+  unfolding find
+  find-no-slip h = rw (ne-eqb (length s) 16 h)
+
+  module _ (l : length s ≡ 16) (c : Asked) (is : c ≡ checked q b) where
+    abbrev inner : Answer
+    inner = findAnswer b (q .size .0) (found (contents current b) q)
+
+    pub find-refused : (z : List ℕ) → z ≡ replicate 16 0 → (n : ℕ) → c ≡ Refused n → answer n b z ≡ find current q b s
+    unfolding find
+    find-refused z e n f = ap (answer n b) e ∙ refused b s q l c is inner n f
+
+    module _ (f : c ≡ Fine) (r : Found) (o : r ≡ foundOf (found (contents current b) q)) where
+      pub find-none : (z : List ℕ) → z ≡ replicate 16 0 → r ≡ Nothing → answer 5 b z ≡ find current q b s
+      unfolding find
+      find-none z e g = ap (answer 5 b) e ∙ go (found (contents current b) q) (sym g ∙ o) ∙ fine b s q l c is inner f
+        where
+          go : (u : Option ℕ) → Nothing ≡ foundOf u → refuse 5 b ≡ findAnswer b (q .size .0) u
+          go none h = refl
+          go (some x) h = let y : _≡_ {A = ℕ} 0 1 = cc in absurd (omega arith)
+
+      pub find-some : (a : Address) → r ≡ At a → (y : List ℕ) → y ≡ slipOf (a .0) (a .0 + q .size .0) → answer 0 b y ≡ find current q b s
+      unfolding find
+      find-some a g y e = ap (answer 0 b) e ∙ go (found (contents current b) q) (sym g ∙ o) ∙ fine b s q l c is inner f
+        where
+          go : (u : Option ℕ) → At a ≡ foundOf u → answer 0 b (slipOf (a .0) (a .0 + q .size .0)) ≡ findAnswer b (q .size .0) u
+          go none h = let y : _≡_ {A = ℕ} 0 1 = cc in absurd (omega arith)
+          go (some x) h = let y : a ≡ record { 0 = x } = cc in rw y
+
+-- ---- next free
+
+module _ (b s : List ℕ) (p : Address) (node : ℕ) where
+  pub next-no-slip : (length s ≡ 16 → ⊥) → answer 8 b s ≡ nextFree current (p .0) node b s
+  unfolding nextFree
+  next-no-slip h = rw (ne-eqb (length s) 16 h)
+
+  abbrev answered : Answer
+  answered = nextFreeAnswer b (contents current b) (lowestFree (contents current b) (p .0) node)
+
+  -- it makes the checks of find: 1 is a power of two, and a size of 1 is not 0
+  next-asks : asking current (nextQuery p node) b s answered ≡ nextFree current (p .0) node b s
+  unfolding nextFree
+  next-asks = let e : powerOfTwo 1 ≡ true = power-of 64 0 (lit< tt) in rw e
+
+  module _ (l : length s ≡ 16) (q : Query) (k : q ≡ nextQuery p node) (c : Asked) (is : c ≡ checked q b) where
+    checks : c ≡ checked (nextQuery p node) b
+    checks = rw k at is
+
+    pub next-refused : (z : List ℕ) → z ≡ replicate 16 0 → (n : ℕ) → c ≡ Refused n → answer n b z ≡ nextFree current (p .0) node b s
+    next-refused z e n f = ap (answer n b) e ∙ refused b s (nextQuery p node) l c checks answered n f ∙ next-asks
+
+    pub next-good : c ≡ Fine → good current b ≡ true
+    next-good f = fine-ready b q c is f .good
+
+    module _ (f : c ≡ Fine) (r : Place) (o : r ≡ placeOf (nextHit (contents current b) (p .0) node)) where
+      pub next-none : (z : List ℕ) → z ≡ replicate 16 0 → r ≡ Nowhere → answer 5 b z ≡ nextFree current (p .0) node b s
+      unfolding nextHit
+      next-none z e g = ap (answer 5 b) e ∙ go (lowestFree (contents current b) (p .0) node) (sym g ∙ o) ∙ fine b s (nextQuery p node) l c checks answered f ∙ next-asks
+        where
+          go : (u : Option ℕ) → Nowhere ≡ placeOf (hitOf (runEnd (runsOf (contents current b))) u) → refuse 5 b ≡ nextFreeAnswer b (contents current b) u
+          go none h = refl
+          go (some x) h = let y : _≡_ {A = ℕ} 0 1 = cc in absurd (omega arith)
+
+      pub next-some : (a end : Address) → r ≡ Here a end → (y : List ℕ) → y ≡ slipOf (a .0) (end .0) → answer 0 b y ≡ nextFree current (p .0) node b s
+      unfolding nextHit
+      next-some a end g y e = ap (answer 0 b) e ∙ go (lowestFree (contents current b) (p .0) node) (sym g ∙ o) ∙ fine b s (nextQuery p node) l c checks answered f ∙ next-asks
+        where
+          go : (u : Option ℕ) → Here a end ≡ placeOf (hitOf (runEnd (runsOf (contents current b))) u)
+              → answer 0 b (slipOf (a .0) (end .0)) ≡ nextFreeAnswer b (contents current b) u
+          go none h = let y : _≡_ {A = ℕ} 0 1 = cc in absurd (omega arith)
+          go (some x) h =
+              let y : a ≡ record { 0 = x } = cc in
+              let z : end ≡ record { 0 = runEnd (runsOf (contents current b)) x } = cc in
+              rw (y, z)

@@ -1,0 +1,170 @@
+-- Whole blocks: a good block's two parts can be searched, and what is found in them is what the definitions say of the block. Assumes nothing.
+use Prim.Native.Nat.{ℕ, _+_, _*_, _-_, _≤_, _<_, max}
+use mathlib.Core.Path.{_≡_, refl, sym, ap, _∙_}
+use mathlib.Core.Bool.{Bool, true, false, _&&_}
+use mathlib.Core.List.{List}
+use mathlib.Core.Option.{Option, none, some}
+use native.Mathlib.Omega.{arith}
+use native.Mathlib.Nat.{mod-one}
+use lib.Dec.{leb}
+use lib.ListN.{length, take, drop, length-drop}
+use lib.Seq.{length-take-le}
+use borrow.Author.Tests.{eq-eqb, ne-eqb, le-leb}
+use Rattle.address.specs.declared.Address.{Address}
+use Rattle.regions.specs.declared.Kind.the-variants.{Memory, Taken}
+use Rattle.regions.specs.declared.Region.{Region}
+use Rattle.regions.specs.Meaning.{top, top-is}
+use Rattle.regions.specs.Bytes.{readRegions}
+use Rattle.regions.proofs.Records.{read-regions-length}
+use Rattle.tables.specs.declared.block.Layout.{Layout}
+use Rattle.tables.specs.declared.block.Header.{Header}
+use Rattle.tables.specs.Block.{current, capacity, offset, Contents, readHeader, part, contents, good}
+use Rattle.tables.proofs.Blocks.{room, lists-ok, good-contents, good-length}
+use Rattle.search.specs.declared.Query.{Query}
+use Rattle.search.specs.declared.block.Parts.{Parts}
+use Rattle.search.specs.declared.fit.Found.{Found}
+use Rattle.search.specs.declared.fit.Found.the-variants.{At, Nothing}
+use Rattle.search.specs.declared.fit.Place.{Place}
+use Rattle.search.specs.declared.fit.Place.the-variants.{Here, Nowhere}
+use Rattle.search.specs.Search.{lowest, eligible, inOne, window, windowEnd, runsOf, runEnd, found, freeFrom, lowestFree}
+use Rattle.search.specs.Steps.{foundOf, hitOf, placeOf, Searchable, lowestIn, highestIn, Ready, partsOf, lowestOf, highestOf, nextQuery, nextHit}
+use Rattle.search.proofs.Stretches.{lowest-agree}
+
+-- ---- the window
+
+abbrev between : Query → Address → Address → Query
+between q start end = record { size = q .size; align = q .align; start = start; end = end; node = q .node }
+
+module _ (limit : Address) (q : Query) (start end : Address) (s : start .0 ≡ max (q .start .0) 4096) where
+  pub window-limit : q .end .0 ≡ 0 → end .0 ≡ max (limit .0) (start .0) → between q start end ≡ window (limit .0) q
+  window-limit z e =
+      let f : end .0 ≡ windowEnd (limit .0) (q .start .0) (q .end .0) = rw (eq-eqb (q .end .0) 0 z) (omega arith) in
+      λ i. between q (record { 0 = s i }) (record { 0 = f i })
+
+  pub window-named : (q .end .0 ≡ 0 → ⊥) → end .0 ≡ max (q .end .0) (start .0) → between q start end ≡ window (limit .0) q
+  window-named z e =
+      let f : end .0 ≡ windowEnd (limit .0) (q .start .0) (q .end .0) = rw (ne-eqb (q .end .0) 0 z) (omega arith) in
+      λ i. between q (record { 0 = s i }) (record { 0 = f i })
+
+-- ---- the parts of a good block
+
+module _ (b : List ℕ) (q : Query) (p : Ready b q) where
+  whole : length b ≡ 6224
+  whole = good-length current b (p .good)
+
+  pub header-room : 80 ≤ length b
+  header-room = omega (arith, whole)
+
+  parts : Searchable (part current Memory b) (readHeader b .memory .count) (part current Taken b) (readHeader b .taken .count) q
+  unfolding contents capacity offset
+  parts =
+      let g = good-contents current b (p .good) in
+      let m : length (part current Memory b) ≡ 3072 = length-take-le 3072 (drop 80 b) (rw length-drop (omega (arith, whole))) in
+      let t : length (part current Taken b) ≡ 3072 = length-take-le 3072 (drop 3152 b) (rw length-drop (omega (arith, whole))) in
+      record {
+        size = p .size;
+        align = p .align;
+        room-memory = omega (arith, m, room current (contents current b) g Memory, read-regions-length (readHeader b .memory .count) (part current Memory b));
+        room-taken = omega (arith, t, room current (contents current b) g Taken, read-regions-length (readHeader b .taken .count) (part current Taken b));
+        good-memory = lists-ok current (contents current b) g Memory;
+        good-taken = lists-ok current (contents current b) g Taken;
+      }
+
+pub parts-are : (L : Layout) → L ≡ current → (b : List ℕ) (h : Header) → h ≡ readHeader b → (p : Parts)
+    → p ≡ record { middle = 80 + 24 * L .memory; end = 80 + 24 * L .memory + 24 * L .taken; memory = h .memory .count; taken = h .taken .count } → p ≡ partsOf b
+unfolding offset
+parts-are L is b h r p e = rw (is, r) at e
+
+module _ (b : List ℕ) (t : Parts) (is : t ≡ partsOf b) where
+  pub memory-from : 80 ≤ t .middle
+  unfolding offset
+  memory-from = rw is (omega arith)
+
+  pub taken-from : t .middle ≤ t .end
+  unfolding offset
+  taken-from = rw is (omega arith)
+
+module _ (b : List ℕ) (q : Query) (t : Parts) (is : t ≡ partsOf b) where
+  module _ (p : Ready b q) where
+    pub memory-room : t .middle ≤ length b
+    unfolding offset
+    memory-room = rw is (omega (arith, whole b q p))
+
+    pub taken-room : t .end ≤ length b
+    taken-room = rw is (omega (arith, whole b q p))
+
+    -- the parts as the code lends them
+    pub searchable : Searchable (take (t .middle - 80) (drop 80 b)) (t .memory) (take (t .end - t .middle) (drop (t .middle) b)) (t .taken) q
+    unfolding capacity offset
+    searchable = rw is (parts b q p)
+
+  pub lowest-is : (f : Place)
+      → f ≡ placeOf (lowestIn (readRegions (t .memory) (take (t .middle - 80) (drop 80 b))) (readRegions (t .taken) (take (t .end - t .middle) (drop (t .middle) b))) q)
+      → f ≡ placeOf (lowestOf (contents current b) q)
+  unfolding contents capacity offset
+  lowest-is f e = rw is at e
+
+  pub highest-is : (f : Found)
+      → f ≡ foundOf (highestIn (readRegions (t .memory) (take (t .middle - 80) (drop 80 b))) (readRegions (t .taken) (take (t .end - t .middle) (drop (t .middle) b))) q)
+      → f ≡ foundOf (highestOf (contents current b) q)
+  unfolding contents capacity offset
+  highest-is f e = rw is at e
+
+-- ---- find
+
+module _ (b : List ℕ) (q : Query) (h : Header) (r : h ≡ readHeader b) (w : Query) (e : w ≡ window (h .limit .0) q) where
+  pub ready-window : Ready b q → Ready b w
+  ready-window p = rw e (record { good = p .good; size = p .size; align = p .align })
+
+  limit-is : w ≡ window (contents current b .limit) q
+  unfolding contents
+  limit-is = rw r at e
+
+  module _ (d : h .direction ≡ 1) where
+    rising : found (contents current b) q ≡ lowest (eligible w (runsOf (contents current b))) top
+    unfolding found contents
+    rising = let k : readHeader b .direction ≡ 1 = rw r at d in rw (eq-eqb (readHeader b .direction) 1 k, limit-is)
+
+    module _ (f : Place) (i : f ≡ placeOf (lowestOf (contents current b) w)) where
+      pub find-low-none : f ≡ Nowhere → Nothing ≡ foundOf (found (contents current b) q)
+      unfolding lowestIn
+      find-low-none g = rw rising (go (lowest (eligible w (runsOf (contents current b))) top) (sym g ∙ i))
+        where
+          go : (o : Option ℕ) → Nowhere ≡ placeOf (hitOf (runEnd (runsOf (contents current b))) o) → Nothing ≡ foundOf o
+          go none k = refl
+          go (some a) k = let z : _≡_ {A = ℕ} 0 1 = cc in absurd (omega arith)
+
+      pub find-low : (a u : Address) → f ≡ Here a u → At a ≡ foundOf (found (contents current b) q)
+      unfolding lowestIn
+      find-low a u g = rw rising (go (lowest (eligible w (runsOf (contents current b))) top) (sym g ∙ i))
+        where
+          go : (o : Option ℕ) → Here a u ≡ placeOf (hitOf (runEnd (runsOf (contents current b))) o) → At a ≡ foundOf o
+          go none k = let z : _≡_ {A = ℕ} 0 1 = cc in absurd (omega arith)
+          go (some x) k = let y : a ≡ record { 0 = x } = cc in ap At y
+
+  pub find-high : (h .direction ≡ 1 → ⊥) → (f : Found) → f ≡ foundOf (highestOf (contents current b) w) → f ≡ foundOf (found (contents current b) q)
+  unfolding found contents highestIn
+  find-high d f i = let k : readHeader b .direction ≡ 1 → ⊥ = rw r at d in rw (ne-eqb (readHeader b .direction) 1 k, ← limit-is) i
+
+-- ---- next free
+
+pub next-ready : (b : List ℕ) (p : Address) (node : ℕ) (q : Query) → q ≡ nextQuery p node → good current b ≡ true → Ready b q
+next-ready b p node q e g = rw e (record { good = g; size = omega arith; align = omega arith })
+
+-- an address is eligible for it exactly when it is free, from p on
+next-eligible : (p : Address) (node : ℕ) (runs : List Region) (a : ℕ) → a < top → eligible (nextQuery p node) runs a ≡ freeFrom (p .0) node runs a
+unfolding eligible
+next-eligible p node runs a h =
+    let f : a + 1 ≤ 18446744073709551615 = omega (arith, top-is) in
+    rw (mod-one a, le-leb (a + 1) 18446744073709551615 f) (go (leb (p .0) a))
+  where
+    go : (t : Bool) → (t && true) && inOne node 1 a runs ≡ t && inOne node 1 a runs
+    go true = refl
+    go false = refl
+
+pub next-found : (s : Contents) (p : Address) (node : ℕ) (q : Query) → q ≡ nextQuery p node → (f : Place) → f ≡ placeOf (lowestOf s q)
+    → f ≡ placeOf (nextHit s (p .0) node)
+unfolding lowestIn nextHit lowestFree
+next-found s p node q e f i =
+    let k = lowest-agree (eligible (nextQuery p node) (runsOf s)) (freeFrom (p .0) node (runsOf s)) top (next-eligible p node (runsOf s)) in
+    rw (e, k) at i

@@ -1,0 +1,46 @@
+-- `search::fit::fit_high` meets its contract.
+use Rattle.search.proofs.Fits.{high-none, high-short, high-found}
+use borrow.Author.Needs.{needs}
+use Rattle.search.proofs.fit.fit_high.Statement.{statement}
+use Rattle.search.proofs.fit.fit_high.Tie as tie
+
+max-requires : tie.Need-max-requires
+max-requires c κs = search needs
+
+min-requires : tie.Need-min-requires
+min-requires c κs = search needs
+
+minus-requires : tie.Need-minus-requires
+minus-requires c κs = search needs
+
+enum-known-last : tie.Need-enum-known-last
+enum-known-last c = search needs
+
+enum-told : tie.Need-enum-told
+enum-told c = search needs
+
+returns : tie.Need-returns
+returns c = search (high-none, needs)
+
+down-requires : tie.Need-down-requires
+down-requires c κs = search needs
+
+returns-2 : tie.Need-returns-2
+returns-2 c = search (high-short, needs)
+
+returns-3 : tie.Need-returns-3
+returns-3 c = search (high-found, needs)
+
+pub fit-high-spec : {M : Type 1} → statement M
+fit-high-spec =
+    tie.close
+    (tie.spec
+    max-requires
+    min-requires
+    minus-requires
+    enum-known-last
+    enum-told
+    returns
+    down-requires
+    returns-2
+    returns-3)

@@ -1,0 +1,55 @@
+// Allocate: looks for an address and goes on only when there is one; then it reserves the size found there.
+use crate::Query;
+use crate::block::find_in;
+use crate::find::Asked;
+use crate::find::check;
+use crate::find::clear_slip;
+use crate::find::put_slip;
+use crate::fit::Found;
+use address::Address;
+use address::Size;
+use regions::Change;
+use regions::Kind;
+use regions::Tag;
+use tables::range::change_range;
+ghost use mathlib.Core.Path.{_≡_};
+ghost use mathlib.Core.Bool.{true};
+ghost use Prim.Native.Nat.{_+_, _^_, _<_};
+ghost use lib.ListN.{replicate};
+ghost use Rattle.regions.specs.declared.Kind.the-variants.{Taken};
+ghost use Rattle.regions.specs.declared.Change.the-variants.{Fill};
+ghost use Rattle.tables.specs.Block.{current, good};
+ghost use Rattle.tables.specs.Commands.{tag, changeRange};
+ghost use Rattle.search.specs.Answers.{answer, reserved, allocate as allocateSpec};
+
+// Reserves `size` addresses from `a` on, which were found in a good block, and writes the slip, which is all zero.
+fn take_found(block: &mut [u8], a: Address, size: Size, slip: &mut [u8]) -> u32
+    requires { ⌜ (good current (now block) ≡ true) × ((a .0 + size .0 < 2 ^ 64) × (now slip ≡ replicate 16 0)) ⌝ }
+    ensures { λ r. ⌜ answer r (now (block .exit)) (now (slip .exit)) ≡ reserved (now (block .entry)) (a .0) (size .0) (changeRange current Taken (Fill (tag 0 0)) (a .0) (size .0) (now (block .entry))) ⌝ }
+{
+    let plain = Tag { flags: 0, node: 0 };
+    let number = change_range(block, Kind::Taken, Change::Fill(plain), a, size);
+    if number != 0 {
+        return number;
+    }
+    put_slip(slip, a, Address(a.0 + size.0));
+    0
+}
+
+// Reserves the address that find finds, and writes it and the end of its range.
+pub fn allocate(block: &mut [u8], q: Query, slip: &mut [u8]) -> u32
+    ensures { λ r. ⌜ answer r (now (block .exit)) (now (slip .exit)) ≡ allocateSpec current q (now (block .entry)) (now (slip .entry)) ⌝ }
+{
+    if slip.len() != 16 {
+        return 8;
+    }
+    clear_slip(slip);
+    if let Asked::Refused(number) = check(block, q) {
+        return number;
+    }
+    let Found::At(a) = find_in(block, q) else {
+        return 5;
+    };
+    let size = q.size;
+    take_found(block, a, size, slip)
+}

@@ -1,0 +1,141 @@
+// The search of a good block: its header says what to do, and its two tables are lent as parts of it.
+use crate::Query;
+use crate::fit::Found;
+use crate::fit::Place;
+use crate::walk::walk_high;
+use crate::walk::walk_low;
+use address::Address;
+use address::Size;
+use tables::block::current_layout;
+use tables::block::get_header;
+ghost use mathlib.Core.Path.{_≡_};
+ghost use mathlib.Core.Bool.{true};
+ghost use Prim.Native.Nat.{_≤_};
+ghost use lib.ListN.{length};
+ghost use Rattle.tables.specs.Block.{current, contents, good};
+ghost use Rattle.search.specs.Search.{window as windowOf, found};
+ghost use Rattle.search.specs.Steps.{foundOf, placeOf, Ready, partsOf, lowestOf, highestOf, nextQuery, nextHit};
+
+// What is searched in a block with this limit: an end of 0 means the limit, start is raised to at least 4096, then end to at least start.
+fn window(limit: Address, q: Query) -> Query
+    ensures { λ r. ⌜ r ≡ windowOf (limit .0) q ⌝ }
+{
+    let size = q.size;
+    let align = q.align;
+    let first = q.start;
+    let last = q.end;
+    let start = first.max(Address(4096));
+    if last.0 == 0 {
+        let end = limit.max(start);
+        return Query {
+            size,
+            align,
+            start,
+            end,
+            node: q.node,
+        };
+    }
+    let end = last.max(start);
+    Query {
+        size,
+        align,
+        start,
+        end,
+        node: q.node,
+    }
+}
+
+// Where the block's tables lie, from byte 80 to `middle` and from there to `end`, and how many records each has.
+struct Parts {
+    middle: usize,
+    end: usize,
+    memory: usize,
+    taken: usize,
+}
+
+fn parts_of(block: &[u8]) -> Parts
+    requires { ⌜ 80 ≤ length (now block) ⌝ }
+    ensures { λ r. ⌜ r ≡ partsOf (now (block .entry)) ⌝ }
+{
+    let layout = current_layout();
+    let h = get_header(block);
+    let middle = 80 + 24 * (layout.memory as usize);
+    Parts {
+        middle,
+        end: middle + 24 * (layout.taken as usize),
+        memory: h.memory.count as usize,
+        taken: h.taken.count as usize,
+    }
+}
+
+// The lowest eligible address of the block, with the end of its run.
+fn lowest_in(block: &[u8], q: Query) -> Place
+    requires { ⌜ Ready (now block) q ⌝ }
+    ensures { λ r. ⌜ r ≡ placeOf (lowestOf (contents current (now (block .entry))) q) ⌝ }
+{
+    let p = parts_of(block);
+    let middle = p.middle;
+    let end = p.end;
+    walk_low(
+        &block[80..middle],
+        p.memory,
+        &block[middle..end],
+        p.taken,
+        q,
+    )
+}
+
+// The highest eligible address of the block.
+fn highest_in(block: &[u8], q: Query) -> Found
+    requires { ⌜ Ready (now block) q ⌝ }
+    ensures { λ r. ⌜ r ≡ foundOf (highestOf (contents current (now (block .entry))) q) ⌝ }
+{
+    let p = parts_of(block);
+    let middle = p.middle;
+    let end = p.end;
+    walk_high(
+        &block[80..middle],
+        p.memory,
+        &block[middle..end],
+        p.taken,
+        q,
+    )
+}
+
+// What find finds: bottom-up (direction 1) the lowest eligible address, top-down the highest.
+pub fn find_in(block: &[u8], q: Query) -> Found
+    requires { ⌜ Ready (now block) q ⌝ }
+    ensures { λ r. ⌜ r ≡ foundOf (found (contents current (now (block .entry))) q) ⌝ }
+{
+    let h = get_header(block);
+    let limit = h.limit;
+    let w = window(limit, q);
+    if h.direction == 1 {
+        let Place::Here(a, _) = lowest_in(block, w) else {
+            return Found::Nothing;
+        };
+        return Found::At(a);
+    }
+    highest_in(block, w)
+}
+
+// What next free asks: one address from `p` on.
+pub fn next_query(p: Address, node: u32) -> Query
+    ensures { λ r. ⌜ r ≡ nextQuery p node ⌝ }
+{
+    Query {
+        size: Size(1),
+        align: Size(1),
+        start: p,
+        end: Address(0xFFFF_FFFF_FFFF_FFFF),
+        node,
+    }
+}
+
+// The lowest address at or above `p` in a free run of the node asked for, with the end of that run: the rising walk for one address.
+pub fn next_in(block: &[u8], p: Address, node: u32) -> Place
+    requires { ⌜ good current (now block) ≡ true ⌝ }
+    ensures { λ r. ⌜ r ≡ placeOf (nextHit (contents current (now (block .entry))) (p .0) node) ⌝ }
+{
+    lowest_in(block, next_query(p, node))
+}

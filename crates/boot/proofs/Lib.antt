@@ -4,3 +4,5 @@ pub mod Runs
 pub mod Often
 pub mod Standing
 pub mod DemandThree
+pub mod Playing
+pub mod Cases

@@ -35,7 +35,7 @@ changeOf reserves = Fill (tag 0 0)
 changeOf frees = Clear
 
 -- the tag is legal: only add has one
-abbrev legalVerb : Verb → Bool
+abbrev pub legalVerb : Verb → Bool
 legalVerb (adds t) = legalTag Memory t
 legalVerb removes = true
 legalVerb marks = true
@@ -43,7 +43,7 @@ legalVerb unmarks = true
 legalVerb reserves = true
 legalVerb frees = true
 
-outcome-is : (v : Verb) (base size : ℕ) (b : List ℕ)
+pub outcome-is : (v : Verb) (base size : ℕ) (b : List ℕ)
     → outcomeBy v base size b ≡ unless (good current b) 1 b (unless (legalVerb v) 2 b (changeRange current (table v) (changeOf v) base size b))
 unfolding outcomeBy add remove mark unmark reserve free
 outcome-is (adds t) base size b = refl

@@ -61,3 +61,8 @@ answerOf (toAllocate q slip) b = allocate current q b slip
 unfoldable pub answers : List Call → List ℕ → List Answer
 answers [] b = []
 answers (c ∷ cs) b = answerOf c b ∷ answers cs (answerOf c b .block)
+
+-- the block that a list of calls leaves
+unfoldable pub leaves : List Call → List ℕ → List ℕ
+leaves [] b = b
+leaves (c ∷ cs) b = leaves cs (answerOf c b .block)

@@ -23,7 +23,7 @@ module _ {A : Type 0} (make : ℕ → A) (other : A) (n : ℕ) where
   small-no h = rw (le-ltb n (2 ^ 64) h)
 
   -- where the answer is not the other, the number is small, and the answer is what is made of it
-  pub small-made : (a : A) → a ≡ ifSmall make other n → (a ≡ other → ⊥) → (a ≡ make n) × (n < 2 ^ 64)
+  small-made : (a : A) → a ≡ ifSmall make other n → (a ≡ other → ⊥) → (a ≡ make n) × (n < 2 ^ 64)
   unfolding ifSmall
   small-made a e d = go (ltb n (2 ^ 64)) refl e
     where
@@ -31,7 +31,7 @@ module _ {A : Type 0} (make : ℕ → A) (other : A) (n : ℕ) where
       go true h e = (e, ltb-true n (2 ^ 64) h)
       go false h e = absurd (d e)
 
-  pub small-other : (a : A) → a ≡ ifSmall make other n → (a ≡ make n → ⊥) → 2 ^ 64 ≤ n
+  small-other : (a : A) → a ≡ ifSmall make other n → (a ≡ make n → ⊥) → 2 ^ 64 ≤ n
   unfolding ifSmall
   small-other a e d = go (ltb n (2 ^ 64)) refl e
     where

@@ -61,11 +61,6 @@ longer f c e h =
     let k : c + (e - c) ≡ e = omega arith in
     rw k at (longer-by f c (e - c))
 
-pub length-shortest : (f : Meaning) (n : ℕ) → length (shortest f n) ≤ n
-unfolding shortest
-length-shortest f zero = omega arith
-length-shortest f (suc n) = omega (arith, length-shortest f n, push-by-one (shortest f n) n 1 (f n))
-
 -- ---- only what is said below n counts
 
 pub agree : (f g : Meaning) (n : ℕ) → ((a : ℕ) → a < n → f a ≡ g a) → shortest f n ≡ shortest g n

@@ -62,9 +62,6 @@ module _ (k : Kind) (t : Tag) where
 
 -- ---- states
 
-pub is-absent : (v : State) (t : Tag) → v ≡ Absent → false ≡ is v t
-is-absent v t e = rw e
-
 pub is-present : (v : State) (t u : Tag) (b : Bool) → v ≡ Present u → b ≡ sameTag u t → b ≡ is v t
 is-present v t u b e q = rw e q
 

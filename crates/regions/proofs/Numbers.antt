@@ -17,17 +17,17 @@ pow-some : (k : ℕ) → 0 < 256 ^ k
 pow-some zero = lit< tt
 pow-some (suc k) = rw pow-suc (omega (arith, pow-some k))
 
-pub number-nil : (k : ℕ) → number k [] ≡ 0
+number-nil : (k : ℕ) → number k [] ≡ 0
 unfolding number
 number-nil zero = refl
 number-nil (suc k) = refl
 
-pub number-none : (l : List ℕ) → number 0 l ≡ 0
+number-none : (l : List ℕ) → number 0 l ≡ 0
 unfolding number
 number-none l = refl
 
 -- one byte, and the rest
-pub number-drop : (k at : ℕ) (l : List ℕ) → number (suc k) (drop at l) ≡ getD l at 0 + 256 * number k (drop (at + 1) l)
+number-drop : (k at : ℕ) (l : List ℕ) → number (suc k) (drop at l) ≡ getD l at 0 + 256 * number k (drop (at + 1) l)
 unfolding number
 number-drop k zero [] = omega (arith, number-nil k)
 number-drop k (suc at) [] = rw add-one (omega (arith, number-nil k))
@@ -69,7 +69,7 @@ unfolding bytes
 bytes-length zero v = refl
 bytes-length (suc k) v = ap suc (bytes-length k (v / 256))
 
-pub bytes-add : (j k v : ℕ) → bytes (j + k) v ≡ bytes j v ++ bytes k (v / 256 ^ j)
+bytes-add : (j k v : ℕ) → bytes (j + k) v ≡ bytes j v ++ bytes k (v / 256 ^ j)
 unfolding bytes
 bytes-add zero k v = rw (zero-add, div-one)
 bytes-add (suc j) k v =
@@ -79,7 +79,7 @@ bytes-add (suc j) k v =
     ∙ ap (λ (n : ℕ). bytes j (v / 256) ++ bytes k n) (div-div-eq-div-mul v 256 (256 ^ j) ∙ ap (λ (n : ℕ). v / n) (mul-comm 256 (256 ^ j) ∙ sym (pow-suc 256 j)))))
 
 -- only the low k bytes count
-pub bytes-mod : (k v : ℕ) → bytes k (v % 256 ^ k) ≡ bytes k v
+bytes-mod : (k v : ℕ) → bytes k (v % 256 ^ k) ≡ bytes k v
 unfolding bytes
 bytes-mod zero v = refl
 bytes-mod (suc k) v =

@@ -1,13 +1,11 @@
 -- What a shortest list says below the end of one of its regions has the list up to there for its shortest list. Assumes nothing.
-use Prim.Native.Nat.{ℕ, zero, suc, _≤_, _<_}
-use mathlib.Core.Path.{_≡_, refl, sym, ap, _∙_}
+use Prim.Native.Nat.{ℕ, _≤_, _<_}
+use mathlib.Core.Path.{_≡_, refl, _∙_}
 use mathlib.Core.List.{List, [], _∷_, _++_}
 use native.Mathlib.Omega.{arith}
-use native.Mathlib.Nat.{le-of-suc-le-suc, not-suc-le-zero}
-use lib.ListN.{length, take, drop, getD, take-append-drop}
 use Rattle.regions.specs.declared.Region.{Region}
 use Rattle.regions.specs.declared.State.{State}
-use Rattle.regions.specs.Meaning.{end, at, shortest}
+use Rattle.regions.specs.Meaning.{at, shortest}
 use Rattle.regions.specs.Changes.{after}
 use Rattle.regions.proofs.Rises.{Rises, done, next, Canonical, reach, edge}
 use Rattle.regions.proofs.Count.{agree}
@@ -28,21 +26,8 @@ unfolding reach at
 first-at [] zs a w h = rises-below a w h
 first-at (r ∷ ys) zs a (next k w) h = rw (first-at ys zs a w h)
 
-pub prefix : (n : ℕ) (ys zs : List Region) → Canonical n (ys ++ zs) → shortest (at (ys ++ zs)) (reach 0 ys) ≡ ys
+prefix : (n : ℕ) (ys zs : List Region) → Canonical n (ys ++ zs) → shortest (at (ys ++ zs)) (reach 0 ys) ≡ ys
 prefix n ys zs w = agree (at (ys ++ zs)) (at ys) (reach 0 ys) (λ a h. first-at ys zs a w h) ∙ round-trip (reach 0 ys) ys (first-rises ys zs w)
-
--- the sameTag by the number of regions
-pub prefix-take : (n : ℕ) (xs : List Region) (k : ℕ) → Canonical n xs → shortest (at xs) (reach 0 (take k xs)) ≡ take k xs
-prefix-take n xs k w =
-    let e = take-append-drop k xs in
-    let u : Canonical n (take k xs ++ drop k xs) = rw e w in
-    ap (λ (l : List Region). shortest (at l) (reach 0 (take k xs))) (sym e) ∙ prefix n (take k xs) (drop k xs) u
-
-pub reach-take : (c : ℕ) (xs : List Region) (j : ℕ) (d : Region) → j < length xs → reach c (take (suc j) xs) ≡ end (getD xs j d)
-unfolding reach
-reach-take c [] j d h = absurd (not-suc-le-zero h)
-reach-take c (r ∷ rs) zero d h = refl
-reach-take c (r ∷ rs) (suc j) d h = reach-take (end r) rs j d (le-of-suc-le-suc h)
 
 -- so an update may start behind the regions that end at or below lo
 pub start-behind : (k : State → State) (lo hi n : ℕ) (ys zs : List Region) → Canonical n (ys ++ zs) → reach 0 ys ≤ lo

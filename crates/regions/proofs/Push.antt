@@ -30,7 +30,7 @@ joins-true r c t e =
     let f = both (eqb (end r) c) (sameTag (r .tag) t) e in
     (eqb-true (end r) c (f .0), same-true (r .tag) t (f .1))
 
-pub joins-yes : (r : Region) (c : ℕ) (t : Tag) → end r ≡ c → r .tag ≡ t → joins r c t ≡ true
+joins-yes : (r : Region) (c : ℕ) (t : Tag) → end r ≡ c → r .tag ≡ t → joins r c t ≡ true
 joins-yes r c t p q = and (eq-eqb (end r) c p) (rw q (same-self t))
 
 pub joins-no : (r : Region) (c : ℕ) (t : Tag) → joins r c t ≡ false → end r ≡ c → r .tag ≡ t → ⊥
@@ -39,12 +39,12 @@ joins-no r c t e p q = let f = joins-yes r c t p q in let z : _≡_ {A = ℕ} 0 
 -- ---- join twice is join once
 
 -- behind a list that ends in r, what is joined concerns only the end
-pub join-cons : (r q : Region) (rs ys : List Region) (c s : ℕ) (t : Tag) → ys ≡ q ∷ rs → join (r ∷ ys) c s t ≡ r ∷ join ys c s t
+join-cons : (r q : Region) (rs ys : List Region) (c s : ℕ) (t : Tag) → ys ≡ q ∷ rs → join (r ∷ ys) c s t ≡ r ∷ join ys c s t
 unfolding join
 join-cons r q rs ys c s t e = rw e
 
 -- what join makes begins with some region
-pub join-head : (xs : List Region) (c s : ℕ) (t : Tag) → (q : Region) × (rs : List Region) × (join xs c s t ≡ q ∷ rs)
+join-head : (xs : List Region) (c s : ℕ) (t : Tag) → (q : Region) × (rs : List Region) × (join xs c s t ≡ q ∷ rs)
 unfolding join
 join-head [] c s t = (region c s t, [], refl)
 join-head (r ∷ []) c s t = go (joins r c t) refl
@@ -54,7 +54,7 @@ join-head (r ∷ []) c s t = go (joins r c t) refl
     go false e = (r, region c s t ∷ [], rw e)
 join-head (r ∷ q ∷ rs) c s t = (r, join (q ∷ rs) c s t, refl)
 
-pub join-join : (xs : List Region) (c s u : ℕ) (t : Tag) → join (join xs c s t) (c + s) u t ≡ join xs c (s + u) t
+join-join : (xs : List Region) (c s u : ℕ) (t : Tag) → join (join xs c s t) (c + s) u t ≡ join xs c (s + u) t
 unfolding join
 join-join [] c s u t = rw (joins-yes (region c s t) (c + s) t refl refl)
 join-join (r ∷ []) c s u t = go (joins r c t) refl

@@ -24,11 +24,11 @@ pub record Fit (r : Region) : Type 0 where
   pub flags : r .tag .flags < 2 ^ 32
   pub node : r .tag .node < 2 ^ 32
 
-pub region-bytes-length : (r : Region) → length (regionBytes r) ≡ 24
+region-bytes-length : (r : Region) → length (regionBytes r) ≡ 24
 unfolding regionBytes
 region-bytes-length r = simp (length-append, bytes-length)
 
-pub read-region-append : (x y : List ℕ) → 24 ≤ length x → readRegion (x ++ y) ≡ readRegion x
+read-region-append : (x y : List ℕ) → 24 ≤ length x → readRegion (x ++ y) ≡ readRegion x
 unfolding readRegion
 read-region-append x y h =
     let a : 8 ≤ length x = omega arith in
@@ -51,7 +51,7 @@ read-region-append x y h =
 drop-bytes : (k v : ℕ) (l : List ℕ) → drop k (bytes k v ++ l) ≡ l
 drop-bytes k v l = drop-at (bytes k v) l k (bytes-length k v)
 
-pub read-region-bytes : (r : Region) (l : List ℕ) → Fit r → readRegion (regionBytes r ++ l) ≡ r
+read-region-bytes : (r : Region) (l : List ℕ) → Fit r → readRegion (regionBytes r ++ l) ≡ r
 unfolding readRegion regionBytes
 read-region-bytes r l f =
     let b = r .base .0 in
@@ -122,7 +122,7 @@ module _ (l : List ℕ) (i : ℕ) (r : Region) (h : i + 24 ≤ length l) where
 -- ---- spelled again
 
 -- a record read and written again
-pub region-bytes-read : (l : List ℕ) → Bytes l → 24 ≤ length l → regionBytes (readRegion l) ≡ take 24 l
+region-bytes-read : (l : List ℕ) → Bytes l → 24 ≤ length l → regionBytes (readRegion l) ≡ take 24 l
 unfolding regionBytes readRegion
 region-bytes-read l h n =
     let d : 8 ≤ length (drop 8 l) = simp length-drop (omega arith) in

@@ -61,7 +61,7 @@ fits-Fits c v r e =
       some = ltb-true 0 (r .size .0) (q .1);
     }
 
-pub Fits-fits : (c : ℕ) (v : State) (r : Region) → Fits c v r → fits c v r ≡ true
+Fits-fits : (c : ℕ) (v : State) (r : Region) → Fits c v r → fits c v r ≡ true
 unfolding fits
 Fits-fits c v r f = and (le-leb c (r .base .0) (f .low)) (and (go (eqb c (r .base .0) && is v (r .tag)) refl) (lt-ltb 0 (r .size .0) (f .some)))
   where

@@ -149,7 +149,7 @@ pub rises-weaken : {c n : ℕ} (m : ℕ) {v : State} {xs : List Region} → Rise
 rises-weaken {c} m {v} (done l) h = last c v m (omega arith)
 rises-weaken m (next k w) h = next k (rises-weaken m w h)
 
-pub push-rises : (xs : List Region) (b s : ℕ) (v : State) → Canonical b xs → Canonical (b + s) (push xs b s v)
+push-rises : (xs : List Region) (b s : ℕ) (v : State) → Canonical b xs → Canonical (b + s) (push xs b s v)
 unfolding push
 push-rises xs b s Absent w = rises-weaken (b + s) w (omega arith)
 push-rises xs b zero (Present t) w = rises-weaken (b + 0) w (omega arith)

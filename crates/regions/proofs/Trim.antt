@@ -24,25 +24,25 @@ use Rattle.regions.proofs.RoundTrip.{rises-below, inside-below, inside-
 
 -- ---- a stretch of one state
 
-pub state-self : (v : State) → sameState v v ≡ true
+state-self : (v : State) → sameState v v ≡ true
 state-self Absent = refl
 state-self (Present t) = same-self t
 
-pub state-true : (u v : State) → sameState u v ≡ true → u ≡ v
+state-true : (u v : State) → sameState u v ≡ true → u ≡ v
 state-true Absent Absent e = refl
 state-true Absent (Present u) e = let z : false ≡ true = e in cc
 state-true (Present t) Absent e = let z : false ≡ true = e in cc
 state-true (Present t) (Present u) e = ap Present (same-true t u e)
 
 module _ (f : Meaning) (v : State) (a : ℕ) where
-  pub throughout-all : (n : ℕ) → ((b : ℕ) → a ≤ b → b < a + n → f b ≡ v) → throughout f v a n ≡ true
+  throughout-all : (n : ℕ) → ((b : ℕ) → a ≤ b → b < a + n → f b ≡ v) → throughout f v a n ≡ true
   unfolding throughout
   throughout-all zero h = refl
   throughout-all (suc n) h =
       let here : sameState (f (a + n)) v ≡ true = rw (h (a + n) (omega arith) (omega arith)) (state-self v) in
       and here (throughout-all n (λ b l m. h b l (omega arith)))
 
-  pub throughout-at : (n : ℕ) → throughout f v a n ≡ true → (b : ℕ) → a ≤ b → b < a + n → f b ≡ v
+  throughout-at : (n : ℕ) → throughout f v a n ≡ true → (b : ℕ) → a ≤ b → b < a + n → f b ≡ v
   unfolding throughout
   throughout-at zero e b l m = absurd (omega arith)
   throughout-at (suc n) e b l m =

@@ -12,7 +12,7 @@ use Rattle.regions.specs.Steps.{stretch}
 use Rattle.regions.proofs.Twins.{walk, update}
 use Rattle.regions.proofs.Rises.{Rises, done, next, Canonical, reach}
 use Rattle.regions.proofs.Push.{push-to}
-use Rattle.regions.proofs.RoundTrip.{canonical-shortest, at-shortest, inside-yes, inside-below, inside-past, at-here, at-before, at-past, rises-end, rises-below, push-absent, Stops, retrace}
+use Rattle.regions.proofs.RoundTrip.{canonical-shortest, at-shortest, inside-yes, inside-below, inside-past, at-here, at-before, at-past, rises-end, rises-below, push-absent}
 use Rattle.regions.proofs.Prefix.{start-behind, rest-rises, rest-at}
 
 module _ (k : State → State) (lo hi : ℕ) (f : Meaning) where
@@ -28,7 +28,7 @@ module _ (k : State → State) (lo hi : ℕ) (f : Meaning) where
   unfolding after
   after-past a l = rw (inside-past lo hi a l)
 
-  pub stretch-shortest : lo ≤ hi → (c e : ℕ) (v : State) → c ≤ e → ((a : ℕ) → c ≤ a → a < e → f a ≡ v)
+  stretch-shortest : lo ≤ hi → (c e : ℕ) (v : State) → c ≤ e → ((a : ℕ) → c ≤ a → a < e → f a ≡ v)
       → shortest (after k lo hi f) e ≡ stretch k lo hi (shortest (after k lo hi f) c) c e v
   unfolding stretch
   stretch-shortest w c e v l h =
@@ -40,7 +40,7 @@ module _ (k : State → State) (lo hi : ℕ) (f : Meaning) where
       ∙ ap (λ (x : List Region). push x m (p - m) (k v))
       (push-to (after k lo hi f) c m v (omega arith) (λ a i j. after-below a (omega arith) ∙ h a i (omega arith))))
 
-  pub walk-shortest : lo ≤ hi → {c n : ℕ} {v : State} {xs : List Region} → Rises c v n xs → hi ≤ n → ((a : ℕ) → c ≤ a → a < n → f a ≡ at xs a)
+  walk-shortest : lo ≤ hi → {c n : ℕ} {v : State} {xs : List Region} → Rises c v n xs → hi ≤ n → ((a : ℕ) → c ≤ a → a < n → f a ≡ at xs a)
       → walk k lo hi (shortest (after k lo hi f) c) c xs ≡ shortest (after k lo hi f) n
   unfolding walk at
   walk-shortest w {c} {n} (done l) b h =
@@ -66,11 +66,6 @@ pub update-from : (k : State → State) (lo hi n : ℕ) (ys zs : List Region) �
 update-from k lo hi n ys zs w b q h =
     ap (λ (x : List Region). walk k lo hi x (reach 0 ys) zs) (sym (start-behind k lo hi n ys zs q h))
     ∙ walk-shortest k lo hi (at (ys ++ zs)) w (rest-rises ys zs q) b (λ a i j. rest-at ys zs a q i)
-
--- and may stop at any c past hi: what is left of the list is put behind as it stands, if its first region does not join what is done
-pub update-stop : (k : State → State) (lo hi : ℕ) (f : Meaning) (acc : List Region) {c n : ℕ} {v : State} {xs : List Region} → hi ≤ c → Rises c v n xs
-    → shortest (after k lo hi f) c ≡ acc → Stops acc c v → ((a : ℕ) → c ≤ a → a < n → f a ≡ at xs a) → shortest (after k lo hi f) n ≡ acc ++ xs
-update-stop k lo hi f acc h w e st g = retrace (after k lo hi f) acc w e st (λ a i j. after-past k lo hi f a (omega arith) ∙ g a i j)
 
 pub update-canonical : (k : State → State) (lo hi n : ℕ) (xs : List Region) → lo ≤ hi → hi ≤ n → Canonical n xs → Canonical n (update k lo hi xs)
 update-canonical k lo hi n xs l m w = rw (update-shortest k lo hi n xs l m w) (canonical-shortest (after k lo hi (at xs)) n)

@@ -18,6 +18,7 @@ use Rattle.regions.specs.Bytes.{bytes}
 use Rattle.regions.proofs.Numbers.{bytes-length, sets-append}
 use Rattle.tables.specs.declared.block.Layout.{Layout}
 use Rattle.tables.specs.Block.{current, contents, good}
+use Rattle.tables.proofs.Blocks.{bad-here, good-here}
 use Rattle.search.specs.declared.Query.{Query}
 use Rattle.search.specs.declared.find.Asked.{Asked}
 use Rattle.search.specs.declared.find.Asked.the-variants.{Refused, Fine}
@@ -40,31 +41,28 @@ module _ (node : ℕ) where
   known-any h = rw (lt-leb node 63 h)
 
 module _ (L : Layout) (is : L ≡ current) (b : List ℕ) (q : Query) (g : Bool) (x : g ≡ good L b) where
-  good-now : (t : Bool) → g ≡ t → good current b ≡ t
-  good-now t e = rw (← is) (sym x ∙ e)
-
   pub check-bad : not g ≡ true → Refused 1 ≡ checked q b
   unfolding checked
-  check-bad h = rw (good-now false (not-true g h))
+  check-bad h = rw (bad-here L is b g x h)
 
   module _ (h : not g ≡ false) (k : Bool) (y : k ≡ nodeKnown (q .node)) where
     pub check-node : not k ≡ true → Refused 2 ≡ checked q b
     unfolding checked
-    check-node i = rw (good-now true (not-false g h), ← y, not-true k i)
+    check-node i = rw (good-here L is b g x h, ← y, not-true k i)
 
     module _ (i : not k ≡ false) (p : Bool) (z : p ≡ powerOfTwo (q .align .0)) where
       pub check-power : not p ≡ true → Refused 3 ≡ checked q b
       unfolding checked
-      check-power j = rw (good-now true (not-false g h), ← y, not-false k i, ← z, not-true p j)
+      check-power j = rw (good-here L is b g x h, ← y, not-false k i, ← z, not-true p j)
 
       module _ (j : not p ≡ false) where
         pub check-size : q .size .0 ≡ 0 → Refused 4 ≡ checked q b
         unfolding checked
-        check-size e = rw (good-now true (not-false g h), ← y, not-false k i, ← z, not-false p j, eq-eqb (q .size .0) 0 e)
+        check-size e = rw (good-here L is b g x h, ← y, not-false k i, ← z, not-false p j, eq-eqb (q .size .0) 0 e)
 
         pub check-fine : (q .size .0 ≡ 0 → ⊥) → Fine ≡ checked q b
         unfolding checked
-        check-fine e = rw (good-now true (not-false g h), ← y, not-false k i, ← z, not-false p j, ne-eqb (q .size .0) 0 e)
+        check-fine e = rw (good-here L is b g x h, ← y, not-false k i, ← z, not-false p j, ne-eqb (q .size .0) 0 e)
 
 -- the checks as tests: on the block, the node, the alignment, and on a size of 0
 abbrev verdict : Bool → Bool → Bool → Bool → Asked

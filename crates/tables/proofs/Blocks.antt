@@ -1,13 +1,13 @@
 -- A good block by its parts: the checks that the code makes are exactly the definition. Assumes nothing.
 use Prim.Native.Nat.{ℕ, _+_, _*_, _-_, _/_, _≤_, _<_}
 use mathlib.Core.Path.{_≡_, refl, sym, ap, _∙_}
-use mathlib.Core.Bool.{Bool, true, false, cond, _&&_}
+use mathlib.Core.Bool.{Bool, true, false, not, cond, _&&_}
 use mathlib.Core.List.{List, _++_}
 use native.Mathlib.Omega.{arith}
 use lib.Dec.{leb}
 use lib.ListN.{length, take, drop, replicate, length-append, length-drop, length-replicate, take-append-drop}
 use lib.Seq.{take-at, drop-at, length-take-le, take-all, drop-drop}
-use borrow.Author.Tests.{leb-true, le-leb}
+use borrow.Author.Tests.{leb-true, le-leb, not-true, not-false}
 use Rattle.address.proofs.Tests.{both, and, no, clash}
 use Rattle.address.specs.declared.Size.{Size}
 use Rattle.regions.specs.declared.Kind.{Kind}
@@ -20,7 +20,7 @@ use Rattle.regions.proofs.Numbers.{Bytes, bytes-drop, bytes-take}
 use Rattle.regions.proofs.Records.{regions-bytes-read, regions-bytes-length, read-regions-length}
 use Rattle.tables.specs.declared.block.Layout.{Layout}
 use Rattle.tables.specs.declared.block.Header.{Header}
-use Rattle.tables.specs.Block.{capacity, offset, blockLength, Contents, listOf, headerBytes, headerOf, blockBytes, readHeader, part, contents, sameBytes, goodTable, goodContents, good}
+use Rattle.tables.specs.Block.{current, capacity, offset, blockLength, Contents, listOf, headerBytes, headerOf, blockBytes, readHeader, part, contents, sameBytes, goodTable, goodContents, good}
 use Rattle.tables.specs.Checks.{zeros, goodPart, checkedTable, withTotals}
 use Rattle.tables.specs.declared.table.Checked.{Checked}
 use Rattle.tables.specs.declared.table.Checked.the-variants.{Total, Bad}
@@ -97,7 +97,7 @@ module _ (L : Layout) (s : Contents) where
     unfolding goodTable
     lists-ok k = both (leb (length (listOf s k)) (capacity L k)) (goodList k (listOf s k)) (tables-ok k) .1
 
-    pub block-length : length (blockBytes L s) ≡ blockLength L
+    block-length : length (blockBytes L s) ≡ blockLength L
     unfolding blockBytes capacity
     block-length =
         length-append (headerBytes L (headerOf s)) _
@@ -202,7 +202,7 @@ module _ (L : Layout) (b : List ℕ) where
         let z : sameBytes b (blockBytes L (contents L b)) ≡ true = rw e (same-self b) in
         and (and (p .0) (and (x .0) (y .0))) z
 
-    pub good-checks : good L b ≡ checks L b
+    good-checks : good L b ≡ checks L b
     good-checks = iff (good L b) (checks L b) (λ g. checks-pass g) checks-enough
 
 -- ---- the answers of the check, one by one
@@ -266,3 +266,12 @@ module _ (L : Layout) (b : List ℕ) where
         let w : withTotals (readHeader b) mt kt ≡ headerOf (contents L b) = rw (p .1, q .1) (simp read-regions-length) in
         et ∙ ap (λ (z : Header). sameBytes (take 80 b) (headerBytes L z)) w
         ∙ sym (good-checks L b bs (l ∙ e) ∙ rw (le-leb (readHeader b .direction) 1 c, p .0, q .0))
+
+-- ---- what the test of a block says of the layout that the commands work on
+
+module _ (L : Layout) (is : L ≡ current) (b : List ℕ) (g : Bool) (q : g ≡ good L b) where
+  pub bad-here : not g ≡ true → good current b ≡ false
+  bad-here t = rw (← is) (sym q ∙ not-true g t)
+
+  pub good-here : not g ≡ false → good current b ≡ true
+  good-here t = rw (← is) (sym q ∙ not-false g t)

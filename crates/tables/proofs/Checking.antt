@@ -38,7 +38,7 @@ pub record Along (k : Kind) (xs rest : List Region) (low : ℕ) (below : State) 
   pub high : low ≤ top
 
 module _ (k : Kind) (xs : List Region) where
-  pub along-start : Along k xs xs 0 Absent 0
+  along-start : Along k xs xs 0 Absent 0
   unfolding goodList
   along-start = record { test = refl; sizes = omega arith; small = omega arith; high = omega arith }
 
@@ -47,7 +47,7 @@ module _ (k : Kind) (xs : List Region) where
   fails x e f = rw (e, f)
 
   module _ (rest : List Region) (low : ℕ) (below : State) (sum : ℕ) (a : Along k xs rest low below sum) where
-    pub along-done : (s : Size) → rest ≡ [] → s .0 ≡ sum → Total s ≡ checkedList k xs
+    along-done : (s : Size) → rest ≡ [] → s .0 ≡ sum → Total s ≡ checkedList k xs
     unfolding checkedList rises legal sizes
     along-done s e f =
         let g : goodList k xs ≡ true = a .test ∙ rw (e, le-leb low top (a .high)) in
@@ -59,13 +59,13 @@ module _ (k : Kind) (xs : List Region) where
       unfolding rises legal
       parts = a .test ∙ rw e
 
-      pub along-tag : (b : Bool) → b ≡ legalTag k (r .tag) → not b ≡ true → Bad ≡ checkedList k xs
+      along-tag : (b : Bool) → b ≡ legalTag k (r .tag) → not b ≡ true → Bad ≡ checkedList k xs
       along-tag b q t = fails _ parts (rw (← q, not-true b t, and-false))
 
-      pub along-fit : (b : Bool) → b ≡ fits low below r → not b ≡ true → Bad ≡ checkedList k xs
+      along-fit : (b : Bool) → b ≡ fits low below r → not b ≡ true → Bad ≡ checkedList k xs
       along-fit b q t = fails _ parts (rw (← q, not-true b t))
 
-      pub along-end : 2 ^ 64 ≤ end r → Bad ≡ checkedList k xs
+      along-end : 2 ^ 64 ≤ end r → Bad ≡ checkedList k xs
       along-end h = fails _ parts (rw (rises-past (end r) (Present (r .tag)) top rs (omega (arith, top-is)), and-false))
 
       module _ (b : Bool) (q : b ≡ fits low below r) (t : not b ≡ false) where
@@ -73,10 +73,10 @@ module _ (k : Kind) (xs : List Region) where
         fit = fits-Fits low below r (sym q ∙ not-false b t)
 
         -- the sum of the sizes never passes the end
-        pub along-sum : end r < 2 ^ 64 → sum + r .size .0 < 2 ^ 64
+        along-sum : end r < 2 ^ 64 → sum + r .size .0 < 2 ^ 64
         along-sum h = omega (arith, fit .low, a .small)
 
-        pub along-next : (d : Bool) → d ≡ legalTag k (r .tag) → not d ≡ false → end r < 2 ^ 64 → Along k xs rs (end r) (Present (r .tag)) (sum + r .size .0)
+        along-next : (d : Bool) → d ≡ legalTag k (r .tag) → not d ≡ false → end r < 2 ^ 64 → Along k xs rs (end r) (Present (r .tag)) (sum + r .size .0)
         unfolding sizes
         along-next d p u h =
             record {

@@ -16,33 +16,28 @@ use Rattle.regions.specs.Trim.{trimmedList}
 use Rattle.tables.specs.declared.block.Layout.{Layout}
 use Rattle.tables.specs.Block.{current, withList, blockBytes, contents, good}
 use Rattle.tables.specs.Commands.{Outcome, outcome, unless, changeRange, tag, add, remove, mark, unmark, reserve, free, trim}
+use Rattle.tables.proofs.Blocks.{bad-here, good-here}
 
 module _ (l : Layout) (is : l ≡ current) (b : List ℕ) (g : Bool) (q : g ≡ good l b) where
-  pub good-now : (t : Bool) → g ≡ t → good current b ≡ t
-  good-now t e = rw (← is) (sym q ∙ e)
-
-  pub good-here : not g ≡ false → good current b ≡ true
-  good-here t = good-now true (not-false g t)
-
   pub range-bad : (o : Outcome) → not g ≡ true → outcome 1 b ≡ unless (good current b) 1 b o
-  range-bad o t = rw (good-now false (not-true g t))
+  range-bad o t = rw (bad-here l is b g q t)
 
   pub range-good : (o p : Outcome) → not g ≡ false → o ≡ p → o ≡ unless (good current b) 1 b p
-  range-good o p t e = rw (good-here t) e
+  range-good o p t e = rw (good-here l is b g q t) e
 
   module _ (base size : ℕ) (t : Tag) where
     pub add-bad : not g ≡ true → outcome 1 b ≡ add current base size (t .flags) (t .node) b
     unfolding add
-    add-bad n = rw (good-now false (not-true g n))
+    add-bad n = rw (bad-here l is b g q n)
 
     module _ (n : not g ≡ false) (x : Bool) (p : x ≡ legalTag Memory t) where
       pub add-tag : not x ≡ true → outcome 2 b ≡ add current base size (t .flags) (t .node) b
       unfolding add
-      add-tag u = rw (good-here n, ← p, not-true x u)
+      add-tag u = rw (good-here l is b g q n, ← p, not-true x u)
 
       pub add-good : (o : Outcome) → not x ≡ false → o ≡ changeRange current Memory (Fill t) base size b → o ≡ add current base size (t .flags) (t .node) b
       unfolding add
-      add-good o u e = rw (good-here n, ← p, not-false x u) e
+      add-good o u e = rw (good-here l is b g q n, ← p, not-false x u) e
 
 -- the five that have no tag to check
 module _ (base size : ℕ) (b : List ℕ) (o : Outcome) where
@@ -77,7 +72,7 @@ power-some k x e t =
 module _ (l : Layout) (is : l ≡ current) (b : List ℕ) (g : Bool) (q : g ≡ good l b) (k : ℕ) where
   pub trim-bad : not g ≡ true → outcome 1 b ≡ trim current k b
   unfolding trim
-  trim-bad n = rw (good-now l is b g q false (not-true g n))
+  trim-bad n = rw (bad-here l is b g q n)
 
   module _ (n : not g ≡ false) (x : Bool) (p : x ≡ powerOfTwo k) where
     pub trim-power : not x ≡ true → outcome 3 b ≡ trim current k b

@@ -27,7 +27,7 @@ pub settings-length : (l d : ℕ) → length (settingsBytes l d) ≡ 16
 unfolding settingsBytes
 settings-length l d = simp (length-append, bytes-length)
 
-pub totals-length : (m t : ℕ) → length (totalsBytes m t) ≡ 24
+totals-length : (m t : ℕ) → length (totalsBytes m t) ≡ 24
 unfolding totalsBytes
 totals-length m t = simp (length-append, bytes-length)
 

@@ -46,7 +46,7 @@ unfolding blockBytes
 block-spelled L s =
     bytes-append (header-spelled L (headerOf s)) (bytes-append (table-spelled (capacity L Memory) (s .memory)) (table-spelled (capacity L Taken) (s .taken)))
 
-pub good-bytes : (L : Layout) (b : List ℕ) → good L b ≡ true → Bytes b
+good-bytes : (L : Layout) (b : List ℕ) → good L b ≡ true → Bytes b
 good-bytes L b g = rw (good-spelled L b g) at (block-spelled L (contents L b))
 
 -- ---- another list in one of the tables
@@ -68,7 +68,7 @@ module _ (L : Layout) (small : Small L) (b : List ℕ) (g : good L b ≡ true) w
       let p = good-contents L b g in
       and (le-leb (s .direction) 1 (direction-ok L s p)) (and (tables-ok L s p Memory) h)
 
-  pub with-spellable : (k : Kind) (xs : List Region) → goodTable L k xs ≡ true → Spellable L (withList (contents L b) k xs)
+  with-spellable : (k : Kind) (xs : List Region) → goodTable L k xs ≡ true → Spellable L (withList (contents L b) k xs)
   with-spellable Memory xs h =
       record { good = with-good Memory xs h; limit = good-spellable L small b (good-bytes L b g) g .limit }
   with-spellable Taken xs h =

@@ -61,7 +61,7 @@ module _ (l : List ℕ) (n : ℕ) (a : Address) (i : ℕ) (inv : endingBy (a .0)
 
 -- ---- what the place tells
 
-pub ending-le : (a : ℕ) (xs : List Region) → endingBy a xs ≤ length xs
+ending-le : (a : ℕ) (xs : List Region) → endingBy a xs ≤ length xs
 unfolding endingBy
 ending-le a [] = omega arith
 ending-le a (r ∷ rs) = go (leb (end r) a) (ending-le a rs)

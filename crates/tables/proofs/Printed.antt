@@ -69,7 +69,7 @@ fresh-spellable =
 -- ---- one range added
 
 -- a command's range up to an end below the top
-pub cut-low : (base size : ℕ) → base + size ≤ top → cut base size ≡ base + size
+cut-low : (base size : ℕ) → base + size ≤ top → cut base size ≡ base + size
 cut-low base size h = omega arith
 
 abbrev first : List Region

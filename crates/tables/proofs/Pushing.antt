@@ -58,7 +58,7 @@ pub full-holds : (l : List ℕ) (cap : ℕ) (xs : List Region) → cap < length 
 unfolding fitsIn
 full-holds l cap xs h = record { answer = rw (lt-leb (length xs) cap h); after = tt }
 
-pub count-holds : (l : List ℕ) (cap m : ℕ) (xs : List Region) → m ≤ cap → readRegions m l ≡ xs → Holds l cap xs (Count m)
+count-holds : (l : List ℕ) (cap m : ℕ) (xs : List Region) → m ≤ cap → readRegions m l ≡ xs → Holds l cap xs (Count m)
 unfolding fitsIn
 count-holds l cap m xs h e =
     let n : length xs ≡ m = ap (length {A = Region}) (sym e) ∙ read-regions-length m l in

@@ -39,7 +39,7 @@ pub record HeaderFits (h : Header) : Type 0 where
   pub limit : h .limit .0 < 2 ^ 64
   pub direction : h .direction < 2 ^ 32
   pub memory-total : h .memory .total .0 < 2 ^ 64
-  pub taken-total : h .taken .total .0 < 2 ^ 64
+  taken-total : h .taken .total .0 < 2 ^ 64
 
 -- the count in an entry
 entry-count : (k o n c : ℕ) (l : List ℕ) → n < 2 ^ 32 → number 4 (drop 8 (entryBytes k o n c ++ l)) ≡ n
@@ -94,7 +94,7 @@ module _ (x d : ℕ) (l : List ℕ) where
       rw (e, field 8 x 0 (bytes 8 d ++ (bytes 8 0 ++ l))) (number-bytes 8 d (bytes 8 0 ++ l) h)
 
 -- the header's fields are read as they were written
-pub header-read : (L : Layout) (h : Header) (l : List ℕ) → HeaderFits h → readHeader (headerBytes L h ++ l) ≡ h
+header-read : (L : Layout) (h : Header) (l : List ℕ) → HeaderFits h → readHeader (headerBytes L h ++ l) ≡ h
 unfolding headerBytes
 header-read L h l f =
     let a : List ℕ = entriesBytes L (h .memory .count) (h .taken .count) in
@@ -138,7 +138,7 @@ module _ (L : Layout) (small : Small L) (s : Contents) (sp : Spellable L s) wher
         taken-total = total-fits (at (s .taken));
       }
 
-  pub spelled-header : readHeader (blockBytes L s) ≡ headerOf s
+  spelled-header : readHeader (blockBytes L s) ≡ headerOf s
   unfolding blockBytes
   spelled-header = header-read L (headerOf s) _ header-fits
 

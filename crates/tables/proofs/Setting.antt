@@ -6,7 +6,7 @@ use mathlib.Core.List.{List, [], _++_}
 use native.Mathlib.Omega.{arith}
 use lib.ListN.{length, take, drop, replicate, length-append, length-replicate, replicate-append-replicate}
 use lib.Seq.{sets, sets-eq, drop-at, length-take-le}
-use borrow.Author.Tests.{eq-eqb, ne-eqb, le-leb, lt-leb, not-true, not-false}
+use borrow.Author.Tests.{eq-eqb, ne-eqb, le-leb, lt-leb}
 use Rattle.address.specs.declared.Address.{Address}
 use Rattle.regions.specs.Meaning.{at, total, top}
 use Rattle.regions.specs.Bytes.{tableBytes, regionsBytes}
@@ -16,11 +16,11 @@ use Rattle.regions.proofs.Good.{total-is-sizes}
 use Rattle.regions.proofs.Numbers.{Bytes}
 use Rattle.tables.specs.declared.block.Layout.{Layout}
 use Rattle.tables.specs.declared.block.Header.{Header}
-use Rattle.tables.specs.Block.{current, capacity, blockLength, freshContents, headerBytes, headerOf, blockBytes, readHeader, good}
+use Rattle.tables.specs.Block.{current, capacity, blockLength, freshContents, headerBytes, blockBytes, readHeader, good}
 use Rattle.tables.specs.Checks.{Small}
 use Rattle.tables.specs.Commands.{outcome, fresh, set}
 use Rattle.tables.proofs.Header.{header-length}
-use Rattle.tables.proofs.Blocks.{good-length}
+use Rattle.tables.proofs.Blocks.{good-length, bad-here, good-here}
 use Rattle.tables.proofs.Reading.{good-header, good-tables}
 
 pub small-current : Small current
@@ -51,9 +51,6 @@ freshHeader =
       direction = 0;
     }
 
-fresh-header : headerOf freshContents ≡ freshHeader
-fresh-header = rw total-empty
-
 pub fresh-spelled : (L : Layout) → blockBytes L freshContents ≡ headerBytes L freshHeader ++ replicate (24 * (L .memory + L .taken)) 0
 unfolding blockBytes tableBytes regionsBytes capacity
 fresh-spelled L =
@@ -81,25 +78,22 @@ module _ (l : Layout) (is : l ≡ current) (b : List ℕ) where
 -- ---- set
 
 module _ (l : Layout) (is : l ≡ current) (b : List ℕ) (x : Address) (d : ℕ) (g : Bool) (q : g ≡ good l b) where
-  good-now : (t : Bool) → g ≡ t → good current b ≡ t
-  good-now t e = rw (← is) (sym q ∙ e)
-
   pub set-bad : not g ≡ true → outcome 1 b ≡ set current (x .0) d b
   unfolding set
-  set-bad t = rw (good-now false (not-true g t))
+  set-bad t = rw (bad-here l is b g q t)
 
   module _ (t : not g ≡ false) where
     pub set-direction : 1 < d → outcome 7 b ≡ set current (x .0) d b
     unfolding set
-    set-direction h = rw (good-now true (not-false g t), lt-leb d 1 h)
+    set-direction h = rw (good-here l is b g q t, lt-leb d 1 h)
 
     pub set-room : 80 ≤ length b
-    set-room = omega (arith, good-length current b (good-now true (not-false g t)))
+    set-room = omega (arith, good-length current b (good-here l is b g q t))
 
     pub set-done : Bytes b → d ≤ 1 → (own : Header) → own ≡ readHeader b → (y : List ℕ)
         → y ≡ sets b 0 (headerBytes l (record { memory = own .memory; taken = own .taken; limit = x; direction = d })) → outcome 0 y ≡ set current (x .0) d b
     unfolding set blockBytes
     set-done bs h own r y p =
-        let k : good current b ≡ true = good-now true (not-false g t) in
+        let k : good current b ≡ true = good-here l is b g q t in
         let e = r ∙ good-header current small-current b bs k in
         rw (k, le-leb d 1 h, p, is, e, sets-header current _ b set-room, good-tables current b k)

@@ -141,7 +141,7 @@ module _ (L : Layout) (b : List ℕ) (g : good L b ≡ true) where
       let o : length b ≤ 80 + m + 24 * L .taken = omega (arith, len) in
       rw (e, drop-of-length-le b o, append-nil, append-assoc) (drop-at (take 80 b) (t ++ x) 80 head-length)
 
-  pub stored-room : (k : Kind) (x : List ℕ) → length x ≡ 24 * capacity L k
+  stored-room : (k : Kind) (x : List ℕ) → length x ≡ 24 * capacity L k
       → 80 ≤ length (take (offset L k) b ++ (x ++ drop (offset L k + 24 * capacity L k) b))
   unfolding capacity offset
   stored-room Memory x e = simp (length-append, length-drop) (omega (arith, head-length))
@@ -150,12 +150,12 @@ module _ (L : Layout) (b : List ℕ) (g : good L b ≡ true) where
 
 module _ (L : Layout) (small : Small L) (b : List ℕ) (bs : Bytes b) (g : good L b ≡ true) where
   -- the header with the new list's tally
-  pub tallied : (k : Kind) (xs : List Region) → withTally (readHeader b) k (tally xs) ≡ headerOf (withList (contents L b) k xs)
+  tallied : (k : Kind) (xs : List Region) → withTally (readHeader b) k (tally xs) ≡ headerOf (withList (contents L b) k xs)
   tallied Memory xs = ap (λ (h : Header). withTally h Memory (tally xs)) (good-header L small b bs g)
   tallied Taken xs = ap (λ (h : Header). withTally h Taken (tally xs)) (good-header L small b bs g)
 
   -- a table stored in its part, and the header written anew
-  pub list-stored : (k : Kind) (xs : List Region) → length xs ≤ capacity L k → (h : Header) → h ≡ readHeader b → (t : Tally) → t ≡ tally xs → (y z : List ℕ)
+  list-stored : (k : Kind) (xs : List Region) → length xs ≤ capacity L k → (h : Header) → h ≡ readHeader b → (t : Tally) → t ≡ tally xs → (y z : List ℕ)
       → y ≡ take (offset L k) b ++ (tableBytes (capacity L k) xs ++ drop (offset L k + 24 * capacity L k) b)
       → z ≡ sets y 0 (headerBytes L (withTally h k t)) → z ≡ blockBytes L (withList (contents L b) k xs)
   unfolding blockBytes
@@ -167,7 +167,7 @@ module _ (L : Layout) (small : Small L) (b : List ℕ) (bs : Bytes b) (g : good 
 
 -- ---- where the tables of a block stand now
 
-pub offset-small : (k : Kind) → offset current k ≤ 3152
+offset-small : (k : Kind) → offset current k ≤ 3152
 unfolding offset
 offset-small Memory = omega arith
 offset-small Taken = omega arith

@@ -1,17 +1,12 @@
+-- `search::allocate::allocate` meets its contract.
 use Rattle.search.specs.declared.fit.Found.the-variants.{At, Nothing}
 use Rattle.search.specs.declared.find.Asked.the-variants.{Fine}
 use mathlib.Core.Path.{_≡_}
 use Rattle.search.proofs.Answering.{fine-ready, found-ends}
-use Rattle.search.proofs.Allocating.{allocate-no-slip, allocate-refused, allocate-good, allocate-none, allocate-some}
+use Rattle.search.proofs.Allocating.{allocate-no-slip, allocate-refused, allocate-none, allocate-some}
 use borrow.Author.Needs.{needs}
 use Rattle.search.proofs.allocate.allocate.Statement.{statement}
 use Rattle.search.proofs.allocate.allocate.Tie as tie
-use Rattle.search.proofs.allocate.allocate.Reads as reads
-use Rattle.search.proofs.allocate.allocate.Lts as lts
-use Rattle.search.proofs.allocate.take_found.Reads as take-found-reads
-use Rattle.search.proofs.block.find_in.Reads as find-in-reads
-use Rattle.search.proofs.find.check.Reads as check-reads
-use Rattle.search.proofs.find.clear_slip.Reads as clear-slip-reads
 
 check-fine : (c : tie.After-enum-told) → c .before .before .check .result ≡ Fine
 check-fine c = search needs
@@ -19,60 +14,47 @@ check-fine c = search needs
 found-at : (c : tie.After-known-told2) → c .before .before .before .find-in .result ≡ At (c .before .a .given .0 .0)
 found-at c = search needs
 
--- src/allocate.rt:44:9
 returns : tie.Need-returns
 returns c = search (allocate-no-slip, needs)
 
--- src/allocate.rt:46:5
 clear-slip-requires : tie.Need-clear-slip-requires
 clear-slip-requires c κs = search needs
 
--- src/allocate.rt:47:37
 check-requires : tie.Need-check-requires
 check-requires c κs = search needs
 
--- src/allocate.rt:47:27
 enum-known-number : tie.Need-enum-known-number
 enum-known-number c = search needs
 
--- src/allocate.rt:48:9
 same-length : tie.Need-same-length
 same-length c = search needs
 
--- src/allocate.rt:48:9
 same-length-2 : tie.Need-same-length-2
 same-length-2 c = search needs
 
--- src/allocate.rt:48:9
 returns-2 : tie.Need-returns-2
 returns-2 c = search (allocate-refused, needs)
 
 enum-told : tie.Need-enum-told
 enum-told c = search needs
 
--- src/allocate.rt:50:24
 find-in-requires : tie.Need-find-in-requires
 find-in-requires c κs =
     let f : c .before .before .before .check .result ≡ Fine = search needs in
     fine-ready _ _ _ (c .before .before .before .check .ensures) f
 
--- src/allocate.rt:50:19
 enum-known-a : tie.Need-enum-known-a
 enum-known-a c = search needs
 
--- src/allocate.rt:51:9
 enum-told-2 : tie.Need-enum-told-2
 enum-told-2 c = search needs
 
--- src/allocate.rt:51:9
 same-length-3 : tie.Need-same-length-3
 same-length-3 c = search needs
 
--- src/allocate.rt:51:9
 same-length-4 : tie.Need-same-length-4
 same-length-4 c = search needs
 
--- src/allocate.rt:51:9
 returns-3 : tie.Need-returns-3
 returns-3 c =
     let x = c .before .before .before .before .before .before .check in
@@ -80,7 +62,6 @@ returns-3 c =
     let g : c .before .before .find-in .result ≡ Nothing = search needs in
     allocate-none _ _ _ (c .before .before .before .before .before .before .before .before .before .before .before .before .if1 .left) _ (x .ensures) f _ (c .before .before .find-in .ensures) _ (c .before .before .before .before .before .before .before .before .before .before .clear-slip .ensures) g
 
--- src/allocate.rt:54:5
 take-found-requires : tie.Need-take-found-requires
 take-found-requires c κs =
     let x = c .before .before .before .before .before .before .before .before .before .before .check in
@@ -89,15 +70,12 @@ take-found-requires c κs =
     let r = fine-ready _ _ _ (x .ensures) f in
     (r .good, (found-ends _ (c .before .before .before .before .before .before .before .before .before .before .before .before .before .before .before .before .before .before .before .args .q) r _ (c .before .before .before .before .before .before .find-in .ensures) _ g, c .before .before .before .before .before .before .before .before .before .before .before .before .before .before .clear-slip .ensures))
 
--- src/allocate.rt:40:1
 same-length-5 : tie.Need-same-length-5
 same-length-5 c = search needs
 
--- src/allocate.rt:40:1
 same-length-6 : tie.Need-same-length-6
 same-length-6 c = search needs
 
--- src/allocate.rt:40:1
 returns-4 : tie.Need-returns-4
 returns-4 c =
     let x = c .before .before .before .before .before .before .before .before .before .before .before .before .before .before .before .check in

@@ -1,3 +1,4 @@
+-- `search::allocate::take_found` meets its contract.
 use Prim.Native.Nat.{ℕ}
 use lib.ListN.{length}
 use mathlib.Core.Path.{ap}
@@ -5,40 +6,28 @@ use Rattle.search.proofs.Allocating.{taken-full, taken-done}
 use borrow.Author.Needs.{needs}
 use Rattle.search.proofs.allocate.take_found.Statement.{statement}
 use Rattle.search.proofs.allocate.take_found.Tie as tie
-use Rattle.search.proofs.allocate.take_found.Reads as reads
-use Rattle.search.proofs.allocate.take_found.Lts as lts
-use Rattle.search.proofs.find.put_slip.Reads as put-slip-reads
-use Rattle.tables.proofs.range.change_range.Reads as change-range-reads
 
--- src/allocate.rt:31:9
 change-range-requires : tie.Need-change-range-requires
 change-range-requires c κs = search needs
 
--- src/allocate.rt:33:9
 same-length : tie.Need-same-length
 same-length c = search needs
 
--- src/allocate.rt:33:9
 returns : tie.Need-returns
 returns c = search (taken-full, needs)
 
--- src/allocate.rt:35:31
 add-t15 : tie.Need-add-t15
 add-t15 c = search needs
 
--- src/allocate.rt:35:5
 put-slip-requires : tie.Need-put-slip-requires
 put-slip-requires c κs = ap (length {A = ℕ}) (c .before .before .before .before .before .before .before .before .before .before .pre .1 .1)
 
--- src/allocate.rt:26:1
 same-length-2 : tie.Need-same-length-2
 same-length-2 c = search needs
 
--- src/allocate.rt:26:1
 same-length-3 : tie.Need-same-length-3
 same-length-3 c = search needs
 
--- src/allocate.rt:26:1
 returns-2 : tie.Need-returns-2
 returns-2 c = search (taken-done, needs)
 

@@ -1,8 +1,10 @@
 -- `tables::commands::add` meets its contract.
-use Rattle.tables.proofs.Commanding.{good-here, add-bad, add-tag, add-good}
+use Rattle.tables.proofs.Blocks.{good-here}
+use Rattle.tables.proofs.Commanding.{add-bad, add-tag, add-good}
 use Rattle.tables.proofs.Setting.{small-layout}
 use borrow.Author.Needs.{needs}
 use Rattle.tables.proofs.commands.add.Statement.{statement}
+-- `tables::commands::add` meets its contract.
 use Rattle.tables.proofs.commands.add.Tie as tie
 
 current-layout-requires : tie.Need-current-layout-requires

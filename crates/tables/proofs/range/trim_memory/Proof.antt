@@ -1,3 +1,4 @@
+-- `tables::range::trim_memory` meets its contract.
 use Rattle.tables.proofs.Ranging.{range-table, trim-room, trim-rises, trim-done}
 use Rattle.tables.proofs.Storing.{capacity-small, span-le, span-room}
 use Rattle.tables.proofs.Blocks.{good-length}
@@ -7,49 +8,33 @@ use native.Mathlib.Omega.{arith}
 use borrow.Author.Needs.{needs}
 use Rattle.tables.proofs.range.trim_memory.Statement.{statement}
 use Rattle.tables.proofs.range.trim_memory.Tie as tie
-use Rattle.tables.proofs.range.trim_memory.Reads as reads
-use Rattle.tables.proofs.range.trim_memory.Lts as lts
-use Rattle.tables.proofs.block.Header.tally.Reads as tally-reads
-use Rattle.tables.proofs.block.get_header.Reads as get-header-reads
-use Rattle.tables.proofs.range.store_list.Reads as store-list-reads
-use Rattle.tables.proofs.range.table_span.Reads as table-span-reads
-use Rattle.tables.proofs.trim.round_records.Reads as round-records-reads
 
--- src/range.rt:104:9
 table-span-requires : tie.Need-table-span-requires
 table-span-requires c κs = search needs
 
--- src/range.rt:107:17
 get-header-requires : tie.Need-get-header-requires
 get-header-requires c κs = omega (arith, good-length current _ (c .before .before .before .pre .0))
 
--- src/range.rt:107:9
 tally-requires : tie.Need-tally-requires
 tally-requires c κs = search needs
 
--- src/range.rt:109:27
 sub-round-records : tie.Need-sub-round-records
 sub-round-records c = search needs
 
--- src/range.rt:109:27
 part-round-records-start : tie.Need-part-round-records-start
 part-round-records-start c = search needs
 
--- src/range.rt:109:27
 part-round-records-end : tie.Need-part-round-records-end
 part-round-records-end c =
     let h = span-le _ _ _ (c .before .before .before .before .before .before .pre .0) (c .before .before .before .before .table-span .ensures .1) in
     search needs
 
--- src/range.rt:109:47
 cast-round-records : tie.Need-cast-round-records
 cast-round-records c = search needs
 
--- src/range.rt:109:69
 slice-aggregate-round-records : tie.Need-slice-aggregate-round-records
 slice-aggregate-round-records c = search needs
 
--- src/range.rt:109:9
 round-records-requires : tie.Need-round-records-requires
 round-records-requires c κs =
     let s = c .before .before .before .before .before .before .before .before .before in
@@ -59,11 +44,9 @@ round-records-requires c κs =
       (omega (arith, capacity-small Memory), s .pre .1),
     )
 
--- src/range.rt:110:37
 slice-aggregate-store-list : tie.Need-slice-aggregate-store-list
 slice-aggregate-store-list c = search needs
 
--- src/range.rt:110:5
 store-list-requires : tie.Need-store-list-requires
 store-list-requires c κs =
     let s = c .before .before .before .before .before .before .before .before .before .before .before .before .before in
@@ -76,11 +59,9 @@ store-list-requires c κs =
       (r, (omega (arith, r, capacity-small Memory, x .kept), trim-rises _ (s .pre .0) _ _ (y .0) (y .1) _ h _ t _ (s .pre .1) _ _ (x .ensures .1))),
     )
 
--- src/range.rt:100:1
 same-length : tie.Need-same-length
 same-length c = search needs
 
--- src/range.rt:100:1
 returns : tie.Need-returns
 returns c =
     let s = c .before .before .before .before .before .before .before .before .before .before .before .before .before .before .before .before in

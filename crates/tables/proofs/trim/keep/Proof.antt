@@ -1,42 +1,32 @@
+-- `tables::trim::keep` meets its contract.
 use Rattle.tables.proofs.Trimming.{keep-none, keep-left}
 use Rattle.regions.proofs.Records.{Fit}
 use native.Mathlib.Omega.{arith}
 use borrow.Author.Needs.{needs}
 use Rattle.tables.proofs.trim.keep.Statement.{statement}
 use Rattle.tables.proofs.trim.keep.Tie as tie
-use Rattle.tables.proofs.trim.keep.Reads as reads
-use Rattle.tables.proofs.trim.keep.Lts as lts
-use Rattle.regions.proofs.bytes.put_region.Reads as put-region-reads
 
--- src/trim.rt:48:23
 enum-known-x : tie.Need-enum-known-x
 enum-known-x c = search needs
 
--- src/trim.rt:49:9
 enum-told : tie.Need-enum-told
 enum-told c = search needs
 
--- src/trim.rt:49:9
 returns : tie.Need-returns
 returns c = (search needs, search (keep-none, needs))
 
--- src/trim.rt:51:21
 mul-put-region : tie.Need-mul-put-region
 mul-put-region c = search needs
 
--- src/trim.rt:51:5
 put-region-requires : tie.Need-put-region-requires
 put-region-requires c κs = search needs
 
--- src/trim.rt:52:5
 add-result : tie.Need-add-result
 add-result c = search needs
 
--- src/trim.rt:44:1
 same-length : tie.Need-same-length
 same-length c = search needs
 
--- src/trim.rt:44:1
 returns-2 : tie.Need-returns-2
 returns-2 c =
     let f : Fit (c .before .before .before .before .before .x .given .0 .0) = record { base = omega arith; size = omega arith; flags = omega arith; node = omega arith } in

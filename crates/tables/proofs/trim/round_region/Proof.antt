@@ -1,58 +1,42 @@
+-- `tables::trim::round_region` meets its contract.
 use Rattle.tables.proofs.Trimming.{round-past, round-end, round-none, round-left}
 use borrow.Author.Needs.{needs}
 use Rattle.tables.proofs.trim.round_region.Statement.{statement}
 use Rattle.tables.proofs.trim.round_region.Tie as tie
-use Rattle.tables.proofs.trim.round_region.Reads as reads
-use Rattle.tables.proofs.trim.round_region.Lts as lts
-use Rattle.address.proofs.Address.down.Reads as down-reads
-use Rattle.address.proofs.Address.up.Reads as up-reads
-use Rattle.regions.proofs.Region.end.Reads as end-reads
 
--- src/trim.rt:25:36
 up-requires : tie.Need-up-requires
 up-requires c κs = search needs
 
--- src/trim.rt:25:28
 enum-known-base : tie.Need-enum-known-base
 enum-known-base c = search needs
 
--- src/trim.rt:26:9
 enum-told : tie.Need-enum-told
 enum-told c = search needs
 
--- src/trim.rt:26:9
 returns : tie.Need-returns
 returns c = search (round-past, needs)
 
--- src/trim.rt:28:35
 end-requires : tie.Need-end-requires
 end-requires c κs = search needs
 
--- src/trim.rt:28:28
 enum-known-end : tie.Need-enum-known-end
 enum-known-end c = search needs
 
--- src/trim.rt:29:9
 enum-told-2 : tie.Need-enum-told-2
 enum-told-2 c = search needs
 
--- src/trim.rt:29:9
 returns-2 : tie.Need-returns-2
 returns-2 c = search (round-end, needs)
 
--- src/trim.rt:31:9
 down-requires : tie.Need-down-requires
 down-requires c κs = search needs
 
--- src/trim.rt:33:9
 returns-3 : tie.Need-returns-3
 returns-3 c = search (round-none, needs)
 
--- src/trim.rt:37:20
 sub-t11 : tie.Need-sub-t11
 sub-t11 c = search needs
 
--- src/trim.rt:19:1
 returns-4 : tie.Need-returns-4
 returns-4 c = search (round-left, needs)
 

@@ -1,7 +1,22 @@
-/* Memory tables before the kernel: two tables of regions in a block that the caller lends.
+/* Memory tables before the kernel: the regions of memory present and of memory taken, in a block that boot code lends.
  *
- * Every function takes any bytes and any numbers, and answers a number below. A refusal leaves the block as it was.
- * Buffers lent to one call share no byte. Nothing is allocated, and nothing is kept between calls but in the block. */
+ * Every function takes any numbers and any bytes, and answers one of the numbers below; the caller checks nothing first.
+ * A refusal leaves the block as lent, byte for byte, and a slip of 16 bytes all zero; a slip of another length stays as lent.
+ *
+ * Lending. A pointer is to as many bytes as the length after it says, and is never null. Any alignment will do. A buffer that
+ * a call may write shares no byte with another buffer of that call. The block's address is nowhere kept: it may be moved or copied.
+ *
+ * The archive (libboot.a, x86-64, System V calling convention)
+ * - leaves undefined at most memcpy, memmove, memset and memcmp, which boot code brings;
+ * - allocates nothing and keeps nothing between calls but what is in the block: calls on different blocks may run at once, on other
+ *   processors or from an interrupt; calls on one block are for the caller to keep apart;
+ * - is position independent: it may run where it is not yet linked to;
+ * - uses the SSE2 registers: before the first call CR0.EM and CR0.TS are 0, CR0.MP and CR4.OSFXSR are 1, and rsp is aligned
+ *   as the convention has it (16 bytes before the call), the direction flag clear. Handlers that call it save xmm0 to xmm15;
+ * - uses the red zone: an interrupt on the same stack must leave the 128 bytes below rsp alone, which the processor by itself does
+ *   not. Give each handler a stack of its own (IST), or keep interrupts off during calls.
+ *
+ * Stack: the MEMBLOCK_STACK_ numbers below. Reserve MEMBLOCK_STACK bytes for calls, and what handlers need besides. */
 #ifndef MEMBLOCK_H
 #define MEMBLOCK_H
 
@@ -12,24 +27,128 @@
 extern "C" {
 #endif
 
-/* The block. */
-#define MEMBLOCK_BLOCK_LENGTH 6224
-#define MEMBLOCK_CAPACITY 128
-
-/* Numbers. */
+/* Numbers answered. Checked in the order 8, 1, 2, 3, 4, 7, 5, 6; the first that holds is given. */
 #define MEMBLOCK_DONE 0
 #define MEMBLOCK_BAD_BLOCK 1     /* the block is not good (fresh: not MEMBLOCK_BLOCK_LENGTH bytes) */
-#define MEMBLOCK_BAD_DIRECTION 7 /* direction above 1 */
+#define MEMBLOCK_BAD_TAG 2       /* add: flags not 0 or 4, or node above 63; searches: node above 63 and not any */
+#define MEMBLOCK_BAD_ALIGNMENT 3 /* not a power of two */
+#define MEMBLOCK_SIZE_ZERO 4     /* find, allocate */
+#define MEMBLOCK_NO_ADDRESS 5    /* no eligible or free address */
+#define MEMBLOCK_TABLE_FULL 6    /* the changed table's finished shortest list has more than MEMBLOCK_CAPACITY records */
+#define MEMBLOCK_BAD_DIRECTION 7 /* set: above 1 */
+#define MEMBLOCK_BAD_SLIP 8      /* the slip is not MEMBLOCK_SLIP_LENGTH bytes */
 
 /* Directions of a search. */
 #define MEMBLOCK_TOP_DOWN 0
 #define MEMBLOCK_BOTTOM_UP 1
 
-/* Writes a fresh block: both tables empty, limit 2^64 - 1, top-down. Answers 0 or 1. */
+/* Tags. */
+#define MEMBLOCK_NO_MAP 4                      /* the one flag; flags are 0 or this */
+#define MEMBLOCK_NODES 64                      /* nodes are 0 to 63 */
+#define MEMBLOCK_ANY_NODE UINT32_C(0xFFFFFFFF) /* in a search */
+
+/* Limits. */
+#define MEMBLOCK_TOP UINT64_C(0xFFFFFFFFFFFFFFFF)      /* ranges of table commands are cut here: the last address is in no table */
+#define MEMBLOCK_NO_LIMIT UINT64_C(0xFFFFFFFFFFFFFFFF) /* the limit of a fresh block */
+#define MEMBLOCK_LOWEST_START 4096                     /* find and allocate start no lower */
+#define MEMBLOCK_CAPACITY 128                          /* records, in each table */
+
+/* The slip: two little-endian u64. */
+#define MEMBLOCK_SLIP_LENGTH 16
+#define MEMBLOCK_SLIP_BASE_AT 0
+#define MEMBLOCK_SLIP_END_AT 8 /* the first address past the range */
+
+/* The block, little-endian. Read it freely; whatever writes it besides these functions must leave a good block, or the next call
+ * refuses it with 1. */
+#define MEMBLOCK_BLOCK_LENGTH 6224
+#define MEMBLOCK_EDITION_AT 0 /* u32 */
+#define MEMBLOCK_EDITION 1
+#define MEMBLOCK_BODIES_AT 4 /* u32 */
+#define MEMBLOCK_BODIES 2
+#define MEMBLOCK_MEMORY_ENTRY_AT 8
+#define MEMBLOCK_TAKEN_ENTRY_AT 24
+#define MEMBLOCK_LIMIT_AT 40        /* u64 */
+#define MEMBLOCK_DIRECTION_AT 48    /* u32, then u32 zero */
+#define MEMBLOCK_MEMORY_TOTAL_AT 56 /* u64: how many addresses are present */
+#define MEMBLOCK_TAKEN_TOTAL_AT 64  /* u64: how many are taken; then u64 zero */
+#define MEMBLOCK_MEMORY_AT 80       /* MEMBLOCK_CAPACITY records */
+#define MEMBLOCK_TAKEN_AT 3152      /* MEMBLOCK_CAPACITY records */
+
+/* A table's entry: four u32, offsets within it. */
+#define MEMBLOCK_ENTRY_LENGTH 16
+#define MEMBLOCK_ENTRY_KIND_AT 0
+#define MEMBLOCK_ENTRY_OFFSET_AT 4
+#define MEMBLOCK_ENTRY_COUNT_AT 8
+#define MEMBLOCK_ENTRY_CAPACITY_AT 12
+#define MEMBLOCK_KIND_MEMORY 1
+#define MEMBLOCK_KIND_TAKEN 2
+
+/* A record, offsets within it. Records at or past the count are all zero. */
+#define MEMBLOCK_RECORD_LENGTH 24
+#define MEMBLOCK_RECORD_BASE_AT 0   /* u64 */
+#define MEMBLOCK_RECORD_SIZE_AT 8   /* u64 */
+#define MEMBLOCK_RECORD_FLAGS_AT 16 /* u32 */
+#define MEMBLOCK_RECORD_NODE_AT 20  /* u32 */
+
+/* Bytes of stack that a call needs, from rsp before the arguments are put: arguments on the stack, the return address, all frames
+ * below it, the bytes of the red zone in use, and the mem* functions of tests/boot/mem.c. Measured, rounded up to 64: tests/boot/run
+ * paints a stack, calls each function on tables of every fill, and looks up the deepest byte touched; it fails when one needs more
+ * than this. They are of the archive as this tree builds it. */
+#define MEMBLOCK_STACK_FRESH 64
+#define MEMBLOCK_STACK_SET 320
+#define MEMBLOCK_STACK_ADD 3520
+#define MEMBLOCK_STACK_REMOVE 3520
+#define MEMBLOCK_STACK_MARK 3520
+#define MEMBLOCK_STACK_UNMARK 3520
+#define MEMBLOCK_STACK_RESERVE 3520
+#define MEMBLOCK_STACK_FREE 3520
+#define MEMBLOCK_STACK_TRIM 3392
+#define MEMBLOCK_STACK_NEXT_FREE 320
+#define MEMBLOCK_STACK_FIND 448
+#define MEMBLOCK_STACK_ALLOCATE 3584
+#define MEMBLOCK_STACK 3584 /* the most of these */
+
+/* Writes a fresh block over any MEMBLOCK_BLOCK_LENGTH bytes: both tables empty, no limit, top-down. Answers 0 or 1. */
 uint32_t memblock_fresh(uint8_t *block, size_t length);
 
-/* Stores a limit and a direction. Answers 0, 1 or 7. */
+/* Stores a limit (where a search with end 0 ends) and a direction. Answers 0, 1 or 7. */
 uint32_t memblock_set(uint8_t *block, size_t length, uint64_t limit, uint32_t direction);
+
+/* Commands on the range from base up to, not including, base + size, cut at MEMBLOCK_TOP. A size of 0 changes nothing.
+ * Each answers 0, 1 or 6, add also 2. */
+
+/* Gives the tag to each address not yet in memory; those already there keep theirs. */
+uint32_t memblock_add(uint8_t *block, size_t length, uint64_t base, uint64_t size, uint32_t flags, uint32_t node);
+
+/* Takes addresses out of memory. What is taken stays taken. */
+uint32_t memblock_remove(uint8_t *block, size_t length, uint64_t base, uint64_t size);
+
+/* Sets, or clears, no-map on the addresses that are in memory. */
+uint32_t memblock_mark(uint8_t *block, size_t length, uint64_t base, uint64_t size);
+uint32_t memblock_unmark(uint8_t *block, size_t length, uint64_t base, uint64_t size);
+
+/* Puts addresses into, or out of, the taken set. They need not be memory; freeing what is not taken changes nothing. */
+uint32_t memblock_reserve(uint8_t *block, size_t length, uint64_t base, uint64_t size);
+uint32_t memblock_free(uint8_t *block, size_t length, uint64_t base, uint64_t size);
+
+/* Rounds each memory record's base up and its end down; a record of which nothing is left goes. Answers 0, 1 or 3. */
+uint32_t memblock_trim(uint8_t *block, size_t length, uint64_t alignment);
+
+/* Searches. A free run is a longest range of memory of one tag, not taken and not no-map. */
+
+/* Slip: the lowest address at or above from in a free run of the node, and the end of that run. 0 is an address like any other;
+ * go on from the end. Answers 0, 8, 1, 2 or 5. */
+uint32_t memblock_next_free(const uint8_t *block, size_t length, uint64_t from, uint32_t node, uint8_t *slip, size_t slip_length);
+
+/* Slip: the lowest (bottom-up) or highest (top-down) multiple a of alignment with start <= a and a + size <= end whose size
+ * addresses lie in one free run of the node, and a + size. End 0 is the block's limit; an end above the limit is taken as given;
+ * start is raised to MEMBLOCK_LOWEST_START, end to start. Answers 0, 8, 1, 2, 3, 4 or 5. */
+uint32_t memblock_find(const uint8_t *block, size_t length, uint64_t size, uint64_t alignment, uint64_t start, uint64_t end,
+                       uint32_t node, uint8_t *slip, size_t slip_length);
+
+/* Reserves what find finds. Answers as find does, or 6; there is no second try at another address. */
+uint32_t memblock_allocate(uint8_t *block, size_t length, uint64_t size, uint64_t alignment, uint64_t start, uint64_t end,
+                           uint32_t node, uint8_t *slip, size_t slip_length);
 
 #ifdef __cplusplus
 }

@@ -1,0 +1,561 @@
+/* A boot: the machine's memory map into the tables, what is in use reserved, allocations in both directions, each kind of refusal.
+ *
+ * Writes a line for each call, with its numbers, the number answered, a sum over the block's bytes and the slip; at the end both
+ * tables. tests/transcript replays the lines on the second program. Runs freestanding and hosted. */
+#include "boot.h"
+#include "memblock.h"
+
+#define KIB(n) (UINT64_C(1024) * (n))
+#define MIB(n) (UINT64_C(1024) * KIB(n))
+#define GIB(n) (UINT64_C(1024) * MIB(n))
+#define PAGE KIB(4)
+#define ANY MEMBLOCK_ANY_NODE
+#define LENGTH MEMBLOCK_BLOCK_LENGTH
+
+#define GUARD 8
+#define FILL 0xA5
+
+/* Far above what a board has: room for filling the tables. */
+#define FAR_TAKEN GIB(1024)
+#define FAR_MEMORY GIB(2048)
+
+/* A block with guard bytes behind it, and its name in the transcript. */
+struct lent {
+    const char *name;
+    uint8_t bytes[LENGTH + GUARD];
+};
+
+static struct lent block = {"block", {0}};
+static struct lent mirror = {"mirror", {0}};
+static uint8_t slip[MEMBLOCK_SLIP_LENGTH + GUARD];
+
+static const struct machine *machine;
+static uint64_t calls;
+static uint64_t lines;
+
+/* Words of the transcript. */
+
+static void text(const char *words)
+{
+    size_t length = 0;
+    while (words[length] != 0)
+        lines += words[length++] == '\n';
+    machine->write(words, length);
+}
+
+static void hex(uint64_t number)
+{
+    char digits[18];
+    size_t at = sizeof digits;
+    do {
+        digits[--at] = "0123456789abcdef"[number % 16];
+        number /= 16;
+    } while (number != 0);
+    digits[--at] = 'x';
+    digits[--at] = '0';
+    machine->write(digits + at, sizeof digits - at);
+}
+
+static void named(const char *name, uint64_t number)
+{
+    text(name);
+    hex(number);
+}
+
+/* Little-endian numbers in lent bytes. */
+
+static uint64_t number_at(const uint8_t *bytes, size_t at, size_t length)
+{
+    uint64_t number = 0;
+    while (length-- > 0)
+        number = number << 8 | bytes[at + length];
+    return number;
+}
+
+static uint64_t slip_base(void)
+{
+    return number_at(slip, MEMBLOCK_SLIP_BASE_AT, 8);
+}
+
+static uint64_t slip_end(void)
+{
+    return number_at(slip, MEMBLOCK_SLIP_END_AT, 8);
+}
+
+/* FNV-1a over the block and its guard bytes. */
+static uint64_t sum(const struct lent *lent)
+{
+    uint64_t sum = UINT64_C(0xcbf29ce484222325);
+    for (size_t i = 0; i < sizeof lent->bytes; i++)
+        sum = (sum ^ lent->bytes[i]) * UINT64_C(0x100000001b3);
+    return sum;
+}
+
+/* A call's line. */
+
+static void begin(const char *function, const struct lent *lent, size_t length)
+{
+    for (size_t i = 0; i < sizeof slip; i++)
+        slip[i] = FILL;
+    calls++;
+    text("memblock_");
+    text(function);
+    text("(");
+    text(lent->name);
+    named(", ", length);
+}
+
+static void answered(const struct lent *lent, uint32_t number)
+{
+    named(") = ", number);
+    named(" sum ", sum(lent));
+}
+
+static uint32_t end(const struct lent *lent, uint32_t number)
+{
+    answered(lent, number);
+    text("\n");
+    return number;
+}
+
+static uint32_t end_slip(const struct lent *lent, size_t slip_length, uint32_t number)
+{
+    size_t written = slip_length == MEMBLOCK_SLIP_LENGTH ? slip_length : 0;
+    int kept = 1;
+    for (size_t i = written; i < sizeof slip; i++)
+        kept = kept && slip[i] == FILL;
+    answered(lent, number);
+    if (written != 0) {
+        named(" slip ", slip_base());
+        named(" ", slip_end());
+    }
+    text(kept ? "\n" : " wrote past the slip\n");
+    return number;
+}
+
+/* The calls. */
+
+static uint32_t fresh(struct lent *lent, size_t length)
+{
+    begin("fresh", lent, length);
+    return end(lent, memblock_fresh(lent->bytes, length));
+}
+
+static uint32_t set(struct lent *lent, uint64_t limit, uint32_t direction)
+{
+    begin("set", lent, LENGTH);
+    named(", ", limit);
+    named(", ", direction);
+    return end(lent, memblock_set(lent->bytes, LENGTH, limit, direction));
+}
+
+static uint32_t add(struct lent *lent, uint64_t base, uint64_t size, uint32_t flags, uint32_t node)
+{
+    begin("add", lent, LENGTH);
+    named(", ", base);
+    named(", ", size);
+    named(", ", flags);
+    named(", ", node);
+    return end(lent, memblock_add(lent->bytes, LENGTH, base, size, flags, node));
+}
+
+typedef uint32_t on_range(uint8_t *block, size_t length, uint64_t base, uint64_t size);
+
+static uint32_t range(const char *name, on_range *call, struct lent *lent, uint64_t base, uint64_t size)
+{
+    begin(name, lent, LENGTH);
+    named(", ", base);
+    named(", ", size);
+    return end(lent, call(lent->bytes, LENGTH, base, size));
+}
+
+#define REMOVE(lent, base, size) range("remove", memblock_remove, lent, base, size)
+#define MARK(lent, base, size) range("mark", memblock_mark, lent, base, size)
+#define UNMARK(lent, base, size) range("unmark", memblock_unmark, lent, base, size)
+#define RESERVE(lent, base, size) range("reserve", memblock_reserve, lent, base, size)
+#define FREE(lent, base, size) range("free", memblock_free, lent, base, size)
+
+static uint32_t trim(struct lent *lent, uint64_t alignment)
+{
+    begin("trim", lent, LENGTH);
+    named(", ", alignment);
+    return end(lent, memblock_trim(lent->bytes, LENGTH, alignment));
+}
+
+static uint32_t next_free(const struct lent *lent, uint64_t from, uint32_t node, size_t slip_length)
+{
+    begin("next_free", lent, LENGTH);
+    named(", ", from);
+    named(", ", node);
+    named(", slip, ", slip_length);
+    return end_slip(lent, slip_length, memblock_next_free(lent->bytes, LENGTH, from, node, slip, slip_length));
+}
+
+/* What find and allocate are asked for. */
+struct wish {
+    uint64_t size, alignment, start, end;
+    uint32_t node;
+    size_t slip_length;
+};
+
+static void wish_line(const char *function, const struct lent *lent, const struct wish *w)
+{
+    begin(function, lent, LENGTH);
+    named(", ", w->size);
+    named(", ", w->alignment);
+    named(", ", w->start);
+    named(", ", w->end);
+    named(", ", w->node);
+    named(", slip, ", w->slip_length);
+}
+
+static uint32_t find_slip(const struct lent *lent, struct wish w)
+{
+    wish_line("find", lent, &w);
+    return end_slip(lent, w.slip_length,
+                    memblock_find(lent->bytes, LENGTH, w.size, w.alignment, w.start, w.end, w.node, slip, w.slip_length));
+}
+
+static uint32_t allocate_slip(struct lent *lent, struct wish w)
+{
+    wish_line("allocate", lent, &w);
+    return end_slip(lent, w.slip_length,
+                    memblock_allocate(lent->bytes, LENGTH, w.size, w.alignment, w.start, w.end, w.node, slip, w.slip_length));
+}
+
+static uint32_t find(const struct lent *lent, uint64_t size, uint64_t alignment, uint64_t start, uint64_t end, uint32_t node)
+{
+    return find_slip(lent, (struct wish){size, alignment, start, end, node, MEMBLOCK_SLIP_LENGTH});
+}
+
+static uint32_t allocate(struct lent *lent, uint64_t size, uint64_t alignment, uint64_t start, uint64_t end, uint32_t node)
+{
+    return allocate_slip(lent, (struct wish){size, alignment, start, end, node, MEMBLOCK_SLIP_LENGTH});
+}
+
+/* Writes by boot code itself, outside the functions. */
+
+static void fill_block(struct lent *lent)
+{
+    for (size_t i = 0; i < sizeof lent->bytes; i++)
+        lent->bytes[i] = FILL;
+    text("fill ");
+    text(lent->name);
+    named(" ", FILL);
+    text("\n");
+}
+
+static void poke(struct lent *lent, size_t at, uint8_t byte)
+{
+    lent->bytes[at] = byte;
+    text("poke ");
+    text(lent->name);
+    named(" ", at);
+    named(" ", byte);
+    text("\n");
+}
+
+/* Allocations in use. */
+
+#define USES 16
+static struct held uses[USES];
+static size_t use_count;
+
+/* Allocates and uses the memory; what stays allocated to the end must hold it to the end. */
+static void take(uint64_t size, uint64_t alignment, uint64_t start, uint64_t end)
+{
+    if (allocate(&block, size, alignment, start, end, ANY) != MEMBLOCK_DONE)
+        return;
+    if (machine->fill != NULL && use_count < USES) {
+        machine->fill(slip_base(), slip_end());
+        uses[use_count].base = slip_base();
+        uses[use_count].size = size;
+        use_count++;
+    }
+}
+
+/* Of a use only the first bytes are kept. */
+static void give_back(uint64_t base, uint64_t kept)
+{
+    for (size_t i = 0; i < use_count; i++)
+        if (uses[i].base == base)
+            uses[i].size = kept;
+}
+
+/* The parts of a boot. */
+
+/* Each usable entry of the map, then whole pages only, then what is in use. */
+static void take_map(struct lent *lent, int backwards)
+{
+    fresh(lent, LENGTH);
+    set(lent, GIB(4), MEMBLOCK_BOTTOM_UP);
+    for (size_t i = 0; i < machine->map_count; i++) {
+        const struct map_entry *entry = &machine->map[backwards ? machine->map_count - 1 - i : i];
+        if (entry->kind == MAP_USABLE)
+            add(lent, entry->base, entry->size, 0, 0);
+    }
+    trim(lent, PAGE);
+    for (size_t i = 0; i < machine->held_count; i++) {
+        const struct held *held = &machine->held[backwards ? machine->held_count - 1 - i : i];
+        RESERVE(lent, held->base, held->size);
+    }
+    RESERVE(lent, 0xA0000, 0x60000); /* the legacy area below 1 MiB */
+}
+
+/* The machine's report in the other order gives the same bytes. */
+static void same_backwards(void)
+{
+    int same = 1;
+    take_map(&mirror, 1);
+    for (size_t i = 0; i < LENGTH; i++)
+        same = same && block.bytes[i] == mirror.bytes[i];
+    text("same block mirror ");
+    hex((uint64_t)same);
+    text("\n");
+}
+
+/* The top 64 KiB below 4 GiB go to the firmware: no-map; then half of it comes back. */
+static void firmware(void)
+{
+    set(&block, GIB(4), MEMBLOCK_TOP_DOWN);
+    if (find(&block, KIB(64), PAGE, 0, 0, ANY) != MEMBLOCK_DONE)
+        return;
+    uint64_t base = slip_base();
+    MARK(&block, base, KIB(64));
+    find(&block, KIB(64), PAGE, 0, 0, ANY);
+    UNMARK(&block, base, KIB(32));
+    find(&block, KIB(16), PAGE, 0, 0, ANY);
+    MARK(&block, base, KIB(32));
+}
+
+static void allocations(void)
+{
+    set(&block, GIB(4), MEMBLOCK_BOTTOM_UP);
+    take(PAGE, PAGE, 0, MIB(1)); /* a start page for other processors */
+    take(3 * PAGE, PAGE, 0, 0);
+    take(64, 64, 0, 0);
+    take(24, 1, 0, 0);
+    take(MIB(2), MIB(2), 0, 0);
+
+    set(&block, GIB(4), MEMBLOCK_TOP_DOWN);
+    take(MIB(8), MIB(2), 0, 0); /* a camera's buffer */
+    uint64_t camera = slip_base();
+    take(MIB(1), PAGE, 0, 0); /* a depth table */
+    uint64_t depth = slip_base();
+    take(1, 1, 0, 0);
+    take(5 * PAGE, KIB(16), MIB(2), MIB(64));
+
+    /* The second half of the depth table goes back and is eligible at once. */
+    give_back(depth, KIB(512));
+    FREE(&block, depth + KIB(512), KIB(512));
+    find(&block, KIB(512), KIB(4), 0, 0, ANY);
+    FREE(&block, GIB(600), MIB(1)); /* never taken: changes nothing */
+    FREE(&block, camera, 0);
+    RESERVE(&block, camera, MIB(8)); /* taken already: changes nothing */
+
+    set(&block, GIB(4), MEMBLOCK_BOTTOM_UP);
+    take(KIB(512), PAGE, MIB(1), 0);
+    take(KIB(256), KIB(64), 0, 0);
+    set(&block, GIB(4), MEMBLOCK_TOP_DOWN);
+    take(KIB(128), KIB(64), 0, 0);
+    take(PAGE, PAGE, 0, MIB(16));
+}
+
+static void free_runs(const struct lent *lent, uint32_t node)
+{
+    uint64_t from = 0;
+    while (next_free(lent, from, node, MEMBLOCK_SLIP_LENGTH) == MEMBLOCK_DONE)
+        from = slip_end();
+}
+
+/* Each call on a block with one byte wrong. */
+static void bad_block(void)
+{
+    uint8_t byte = block.bytes[MEMBLOCK_MEMORY_TOTAL_AT];
+    poke(&block, MEMBLOCK_MEMORY_TOTAL_AT, (uint8_t)(byte + 1));
+    set(&block, 0, 2);
+    add(&block, 0, PAGE, 1, 0);
+    REMOVE(&block, 0, PAGE);
+    MARK(&block, 0, PAGE);
+    UNMARK(&block, 0, PAGE);
+    RESERVE(&block, 0, PAGE);
+    FREE(&block, 0, PAGE);
+    trim(&block, 3);
+    next_free(&block, 0, 64, MEMBLOCK_SLIP_LENGTH);
+    find(&block, 0, 3, 0, 0, 64);
+    allocate(&block, 0, 3, 0, 0, 64);
+    allocate_slip(&block, (struct wish){0, 3, 0, 0, 64, MEMBLOCK_SLIP_LENGTH + 1});
+    poke(&block, MEMBLOCK_MEMORY_TOTAL_AT, byte);
+}
+
+static void refusals(void)
+{
+    set(&block, GIB(1), 2);
+    add(&block, 0, PAGE, 1, 0);
+    add(&block, 0, 0, 0, MEMBLOCK_NODES);
+    trim(&block, 0);
+    trim(&block, 0x1800);
+    next_free(&block, 0, MEMBLOCK_NODES, MEMBLOCK_SLIP_LENGTH);
+    next_free(&block, 0, ANY, MEMBLOCK_SLIP_LENGTH - 1);
+    next_free(&block, MEMBLOCK_TOP, ANY, MEMBLOCK_SLIP_LENGTH);
+    find_slip(&block, (struct wish){PAGE, PAGE, 0, 0, ANY, 0});
+    find(&block, PAGE, PAGE, 0, 0, MEMBLOCK_NODES);
+    find(&block, 0, 3, 0, 0, ANY);
+    find(&block, 0, PAGE, 0, 0, ANY);
+    find(&block, PAGE, PAGE, 0, 0, 1);
+    find(&block, UINT64_C(1) << 63, 1, 0, 0, ANY);
+    /* A large size and a small end: no address, in either direction. */
+    find(&block, MIB(64), 1, 0, MIB(1), ANY);
+    set(&block, GIB(4), MEMBLOCK_BOTTOM_UP);
+    find(&block, MIB(64), 1, 0, MIB(1), ANY);
+    find(&block, MEMBLOCK_TOP, UINT64_C(1) << 63, MEMBLOCK_TOP, MEMBLOCK_TOP, ANY);
+    allocate_slip(&block, (struct wish){PAGE, PAGE, 0, 0, ANY, MEMBLOCK_SLIP_LENGTH + GUARD});
+    allocate(&block, PAGE, PAGE, 0, 0, 1);
+    allocate(&block, PAGE, 0, 0, 0, ANY);
+    allocate(&block, 0, PAGE, 0, 0, ANY);
+}
+
+/* The taken table filled: apart refuses 6, touching does not. */
+static void full_taken(struct lent *lent)
+{
+    uint64_t base = FAR_TAKEN;
+    uint64_t count = 0;
+    while (count <= MEMBLOCK_CAPACITY && RESERVE(lent, base + count * 2 * PAGE, PAGE) == MEMBLOCK_DONE)
+        count++;
+    if (count < 2)
+        return;
+    uint64_t last = base + (count - 1) * 2 * PAGE;
+    FREE(lent, last + 16, 16);
+    set(lent, GIB(4), MEMBLOCK_BOTTOM_UP);
+    if (find(lent, KIB(256), PAGE, MIB(2), 0, ANY) == MEMBLOCK_DONE)
+        allocate(lent, PAGE, PAGE, slip_base() + KIB(64), 0, ANY); /* inside a free run: a record more */
+    RESERVE(lent, base + PAGE, PAGE);                             /* fills a gap: a record less */
+    RESERVE(lent, last + 4 * PAGE, PAGE);
+    FREE(lent, base, (count + 4) * 2 * PAGE);
+}
+
+/* The memory table filled with records that touch and differ in their tags. */
+static void full_memory(struct lent *lent)
+{
+    uint64_t base = FAR_MEMORY;
+    uint64_t count = 0;
+    while (count <= MEMBLOCK_CAPACITY &&
+           add(lent, base + count * PAGE, PAGE, count % 3 == 0 ? MEMBLOCK_NO_MAP : 0, (uint32_t)(count % MEMBLOCK_NODES)) ==
+               MEMBLOCK_DONE)
+        count++;
+    REMOVE(lent, base + PAGE + 16, 16);
+    MARK(lent, base + PAGE, 16);
+    UNMARK(lent, base + 3 * PAGE, 16);
+    /* A named end above the limit is taken as given. */
+    allocate(lent, PAGE, PAGE, base, GIB(4096), 5);
+    FREE(lent, slip_base(), PAGE);
+    free_runs(lent, 2);
+    trim(lent, 2 * PAGE);
+    REMOVE(lent, base, MEMBLOCK_CAPACITY * 2 * PAGE);
+}
+
+/* Memory of another node where there was none; what was there keeps its tag. Taken addresses that are no memory stay taken. */
+static void another_node(struct lent *lent)
+{
+    add(lent, 0, MIB(4), 0, 3);
+    find(lent, PAGE, PAGE, 0, 0, 3);
+    free_runs(lent, 3);
+    REMOVE(lent, 0x90000, 0x70000);
+    next_free(lent, 0x90000, ANY, MEMBLOCK_SLIP_LENGTH);
+}
+
+/* The last addresses: cut at the top, no sum goes round. */
+static void at_the_top(struct lent *lent)
+{
+    add(lent, UINT64_C(0) - PAGE, 2 * PAGE, 0, 1);
+    add(lent, MEMBLOCK_TOP, 1, 0, 1);
+    find(lent, PAGE - 1, 1, 0, MEMBLOCK_TOP, 1);
+    find(lent, PAGE, 1, 0, MEMBLOCK_TOP, 1);
+    next_free(lent, 0, 1, MEMBLOCK_SLIP_LENGTH);
+    REMOVE(lent, UINT64_C(0) - PAGE, MEMBLOCK_TOP);
+}
+
+static void table(const struct lent *lent, const char *name, size_t entry_at, size_t at)
+{
+    uint64_t count = number_at(lent->bytes, entry_at + MEMBLOCK_ENTRY_COUNT_AT, 4);
+    for (uint64_t i = 0; i < count && i < MEMBLOCK_CAPACITY; i++, at += MEMBLOCK_RECORD_LENGTH) {
+        text(name);
+        named(" base ", number_at(lent->bytes, at + MEMBLOCK_RECORD_BASE_AT, 8));
+        named(" size ", number_at(lent->bytes, at + MEMBLOCK_RECORD_SIZE_AT, 8));
+        named(" flags ", number_at(lent->bytes, at + MEMBLOCK_RECORD_FLAGS_AT, 4));
+        named(" node ", number_at(lent->bytes, at + MEMBLOCK_RECORD_NODE_AT, 4));
+        text("\n");
+    }
+}
+
+static void tables(const struct lent *lent)
+{
+    text("tables ");
+    text(lent->name);
+    text("\n");
+    table(lent, "memory", MEMBLOCK_MEMORY_ENTRY_AT, MEMBLOCK_MEMORY_AT);
+    table(lent, "taken", MEMBLOCK_TAKEN_ENTRY_AT, MEMBLOCK_TAKEN_AT);
+    named("totals memory ", number_at(lent->bytes, MEMBLOCK_MEMORY_TOTAL_AT, 8));
+    named(" taken ", number_at(lent->bytes, MEMBLOCK_TAKEN_TOTAL_AT, 8));
+    text("\n");
+    named("limit ", number_at(lent->bytes, MEMBLOCK_LIMIT_AT, 8));
+    named(" direction ", number_at(lent->bytes, MEMBLOCK_DIRECTION_AT, 4));
+    text("\n");
+}
+
+int boot(const struct machine *runs_on)
+{
+    int lost = 0;
+    machine = runs_on;
+
+    text("boot\n");
+    for (size_t i = 0; i < machine->map_count; i++) {
+        named("map base ", machine->map[i].base);
+        named(" size ", machine->map[i].size);
+        named(" kind ", machine->map[i].kind);
+        text("\n");
+    }
+    for (size_t i = 0; i < machine->held_count; i++) {
+        named("held base ", machine->held[i].base);
+        named(" size ", machine->held[i].size);
+        text("\n");
+    }
+
+    /* Bytes that are no block yet. */
+    fill_block(&block);
+    fill_block(&mirror);
+    set(&block, GIB(4), MEMBLOCK_BOTTOM_UP);
+    fresh(&block, LENGTH - 1);
+    fresh(&block, LENGTH + GUARD);
+
+    take_map(&block, 0);
+    same_backwards();
+    firmware();
+    allocations();
+    free_runs(&block, ANY);
+    refusals();
+    bad_block();
+    full_taken(&mirror);
+    full_memory(&mirror);
+    another_node(&mirror);
+    at_the_top(&mirror);
+    REMOVE(&block, 0, PAGE); /* the page of null pointers */
+    free_runs(&block, 0);
+
+    /* Nothing was written where memory in use stands. */
+    for (size_t i = 0; i < use_count; i++) {
+        int holds = machine->holds(uses[i].base, uses[i].base + uses[i].size);
+        named("use base ", uses[i].base);
+        named(" size ", uses[i].size);
+        named(" holds ", (uint64_t)holds);
+        text("\n");
+        lost += !holds;
+    }
+
+    tables(&mirror);
+    tables(&block);
+    named("end calls ", calls);
+    named(" lines ", lines);
+    text("\n");
+    return lost;
+}

@@ -1,0 +1,233 @@
+/* How deep each function goes into the stack. Hosted.
+ *
+ * Each call runs on a painted stack of its own; the deepest byte that lost its paint says how much was used, bytes of the red zone
+ * too. Twice with different paint, so that a byte written with the paint's own value is seen. The blocks have tables of several
+ * fills up to full, with ranges on, beside and across their records; some blocks and slips are bad. Fails when a function needs
+ * more than memblock.h says. */
+#include "memblock.h"
+
+#include <stdio.h>
+#include <string.h>
+
+#define STACK 16384
+#define MOST_ARGUMENTS 9
+#define IN_REGISTERS 6
+#define TURNS 300
+
+/* Calls a function with arguments on the stack that ends at top, which is aligned to 16. */
+uint64_t call_on(uint8_t *top, void (*function)(void), const uint64_t *arguments, uint64_t on_stack);
+
+__asm__(".text\n"
+        "call_on:\n"
+        "    pushq %rbp\n"
+        "    movq %rsp, %rbp\n"
+        "    movq %rdi, %rsp\n"
+        "    movq %rsi, %rax\n"
+        "    movq %rdx, %r10\n"
+        "    testq %rcx, %rcx\n"
+        "    jz 1f\n"
+        "    subq $8, %rsp\n"
+        "    pushq 64(%r10)\n"
+        "    pushq 56(%r10)\n"
+        "    pushq 48(%r10)\n"
+        "1:  movq (%r10), %rdi\n"
+        "    movq 8(%r10), %rsi\n"
+        "    movq 16(%r10), %rdx\n"
+        "    movq 24(%r10), %rcx\n"
+        "    movq 32(%r10), %r8\n"
+        "    movq 40(%r10), %r9\n"
+        "    call *%rax\n"
+        "    movq %rbp, %rsp\n"
+        "    popq %rbp\n"
+        "    ret\n");
+
+enum numbers { NONE, LIMIT, RANGE_TAG, RANGE, ALIGNMENT, FROM, SEARCH };
+
+static struct function {
+    const char *name;
+    void (*call)(void);
+    enum numbers numbers;
+    size_t said;
+    size_t deepest;
+    unsigned done, refused;
+} functions[] = {
+    {"fresh", (void (*)(void))memblock_fresh, NONE, MEMBLOCK_STACK_FRESH, 0, 0, 0},
+    {"set", (void (*)(void))memblock_set, LIMIT, MEMBLOCK_STACK_SET, 0, 0, 0},
+    {"add", (void (*)(void))memblock_add, RANGE_TAG, MEMBLOCK_STACK_ADD, 0, 0, 0},
+    {"remove", (void (*)(void))memblock_remove, RANGE, MEMBLOCK_STACK_REMOVE, 0, 0, 0},
+    {"mark", (void (*)(void))memblock_mark, RANGE, MEMBLOCK_STACK_MARK, 0, 0, 0},
+    {"unmark", (void (*)(void))memblock_unmark, RANGE, MEMBLOCK_STACK_UNMARK, 0, 0, 0},
+    {"reserve", (void (*)(void))memblock_reserve, RANGE, MEMBLOCK_STACK_RESERVE, 0, 0, 0},
+    {"free", (void (*)(void))memblock_free, RANGE, MEMBLOCK_STACK_FREE, 0, 0, 0},
+    {"trim", (void (*)(void))memblock_trim, ALIGNMENT, MEMBLOCK_STACK_TRIM, 0, 0, 0},
+    {"next_free", (void (*)(void))memblock_next_free, FROM, MEMBLOCK_STACK_NEXT_FREE, 0, 0, 0},
+    {"find", (void (*)(void))memblock_find, SEARCH, MEMBLOCK_STACK_FIND, 0, 0, 0},
+    {"allocate", (void (*)(void))memblock_allocate, SEARCH, MEMBLOCK_STACK_ALLOCATE, 0, 0, 0},
+};
+
+static _Alignas(16) uint8_t stack[STACK];
+static uint8_t before[MEMBLOCK_BLOCK_LENGTH];
+static uint8_t block[MEMBLOCK_BLOCK_LENGTH];
+static uint8_t slip[MEMBLOCK_SLIP_LENGTH];
+
+static uint64_t state = 1;
+
+/* xorshift64 */
+static uint64_t any(void)
+{
+    state ^= state << 13;
+    state ^= state >> 7;
+    state ^= state << 17;
+    return state;
+}
+
+static uint64_t below(uint64_t end)
+{
+    return any() % end;
+}
+
+/* Memory records of 4 KiB, of which every third touches the one before; taken records of 256 bytes within them. */
+static void fill_tables(unsigned memory, unsigned taken, uint32_t direction)
+{
+    memblock_fresh(before, sizeof before);
+    memblock_set(before, sizeof before, MEMBLOCK_NO_LIMIT, direction);
+    for (unsigned i = 0; i < memory; i++)
+        memblock_add(before, sizeof before, 0x2000 * (uint64_t)i + (i % 3 == 0 ? 0x1000 : 0), 0x1000, i % 5 == 0 ? MEMBLOCK_NO_MAP : 0,
+                     i % MEMBLOCK_NODES);
+    for (unsigned i = 0; i < taken; i++)
+        memblock_reserve(before, sizeof before, 0x2000 * (uint64_t)i + 0x1100, 0x100);
+}
+
+static uint64_t address(void)
+{
+    switch (below(8)) {
+    case 0:
+        return 0;
+    case 1:
+        return MEMBLOCK_TOP - below(0x2000);
+    case 2:
+        return any();
+    default:
+        return below(130) * 0x2000 + below(0x20) * 0x100 + below(2);
+    }
+}
+
+static uint64_t size(void)
+{
+    switch (below(6)) {
+    case 0:
+        return 0;
+    case 1:
+        return any();
+    case 2:
+        return MEMBLOCK_TOP;
+    default:
+        return below(3) * 0x2000 + below(0x20) * 0x100 + 1;
+    }
+}
+
+static uint32_t node(void)
+{
+    switch (below(4)) {
+    case 0:
+        return (uint32_t)below(66);
+    default:
+        return MEMBLOCK_ANY_NODE;
+    }
+}
+
+static uint64_t alignment(void)
+{
+    return below(10) == 0 ? any() : UINT64_C(1) << (below(8) == 0 ? below(64) : below(13));
+}
+
+/* Answers how many arguments there are. */
+static size_t choose(enum numbers numbers, uint64_t *arguments)
+{
+    size_t n = 0;
+    arguments[n++] = (uint64_t)(uintptr_t)block;
+    arguments[n++] = sizeof block - (below(50) == 0);
+    switch (numbers) {
+    case NONE:
+        return n;
+    case LIMIT:
+        arguments[n++] = any();
+        arguments[n++] = below(3);
+        return n;
+    case RANGE_TAG:
+        arguments[n++] = address();
+        arguments[n++] = size();
+        arguments[n++] = below(8) == 0 ? below(8) : below(2) * MEMBLOCK_NO_MAP;
+        arguments[n++] = below(65);
+        return n;
+    case RANGE:
+        arguments[n++] = address();
+        arguments[n++] = size();
+        return n;
+    case ALIGNMENT:
+        arguments[n++] = alignment();
+        return n;
+    case FROM:
+        arguments[n++] = address();
+        arguments[n++] = node();
+        break;
+    case SEARCH:
+        arguments[n++] = size();
+        arguments[n++] = alignment();
+        arguments[n++] = below(3) == 0 ? address() : 0;
+        arguments[n++] = below(3) == 0 ? address() : 0;
+        arguments[n++] = node();
+        break;
+    }
+    arguments[n++] = (uint64_t)(uintptr_t)slip;
+    arguments[n++] = sizeof slip - (below(50) == 0);
+    return n;
+}
+
+static void measure(struct function *function)
+{
+    static const uint8_t paints[] = {0x5C, 0xA3};
+    uint64_t arguments[MOST_ARGUMENTS] = {0};
+    size_t count = choose(function->numbers, arguments);
+    for (size_t i = 0; i < sizeof paints; i++) {
+        size_t lowest = 0;
+        memcpy(block, before, sizeof block);
+        memset(stack, paints[i], sizeof stack);
+        uint32_t number = (uint32_t)call_on(stack + sizeof stack, function->call, arguments, count > IN_REGISTERS);
+        while (lowest < sizeof stack && stack[lowest] == paints[i])
+            lowest++;
+        if (sizeof stack - lowest > function->deepest)
+            function->deepest = sizeof stack - lowest;
+        if (number == MEMBLOCK_DONE)
+            function->done++;
+        else
+            function->refused++;
+    }
+}
+
+int main(void)
+{
+    static const unsigned fills[] = {0, 1, 60, 127, 128};
+    size_t kinds = sizeof fills / sizeof fills[0];
+    size_t count = sizeof functions / sizeof functions[0];
+    int wrong = 0;
+    for (size_t m = 0; m < kinds; m++)
+        for (size_t t = 0; t < kinds; t++)
+            for (unsigned turn = 0; turn < TURNS; turn++) {
+                if (turn % 50 == 0)
+                    fill_tables(fills[m], fills[t], turn / 50 % 2);
+                if (turn % 50 == 49)
+                    before[below(sizeof before)] ^= 1; /* most such blocks are bad */
+                for (size_t i = 0; i < count; i++)
+                    measure(&functions[i]);
+            }
+    for (size_t i = 0; i < count; i++) {
+        const struct function *f = &functions[i];
+        size_t needs = (f->deepest + 63) / 64 * 64;
+        int bad = needs > f->said || f->deepest > STACK - 1024 || f->done == 0 || f->refused == 0;
+        printf("stack: memblock_%s %zu bytes, %zu rounded up, memblock.h says %zu%s\n", f->name, f->deepest, needs, f->said,
+               bad ? ": WRONG" : "");
+        wrong |= bad;
+    }
+    return wrong;
+}

@@ -1,0 +1,356 @@
+//! Replays the boot program's transcript on the second program, line by line.
+//!
+//! `transcript NAME FILE`. For each call the line that the second program would
+//! have written, with its number, its block's sum and its slip, must be the line
+//! that stands there; the same for both tables at the end. Fails at the first
+//! difference, at a line it does not know, and when the transcript does not reach
+//! its end or leaves out a function, a number, or part of the memory map.
+
+use model::layout::{BLOCK_LEN, SLIP_LEN};
+use model::{Board, Wish};
+use std::collections::{BTreeMap, BTreeSet};
+use std::fmt::Write;
+use std::process::ExitCode;
+
+/// Bytes behind each lent buffer that no call may write.
+const GUARD: usize = 8;
+/// What a slip holds before each call.
+const FILL: u8 = 0xa5;
+/// The area below 1 MiB that a PC keeps for itself, base and size.
+const LEGACY: (u64, u64) = (0xa0000, 0x60000);
+/// The kind of a memory map entry that is added.
+const USABLE: u64 = 1;
+
+const FUNCTIONS: [&str; 12] = [
+    "memblock_fresh",
+    "memblock_set",
+    "memblock_add",
+    "memblock_remove",
+    "memblock_mark",
+    "memblock_unmark",
+    "memblock_reserve",
+    "memblock_free",
+    "memblock_trim",
+    "memblock_next_free",
+    "memblock_find",
+    "memblock_allocate",
+];
+const NUMBERS: u32 = 9;
+
+/// What is wrong with a line.
+type Wrong = String;
+
+fn main() -> ExitCode {
+    let arguments: Vec<String> = std::env::args().skip(1).collect();
+    let [name, file] = &arguments[..] else {
+        eprintln!("usage: transcript NAME FILE");
+        return ExitCode::from(2);
+    };
+    let text = match std::fs::read_to_string(file) {
+        Ok(text) => text,
+        Err(e) => {
+            eprintln!("{name}: {file}: {e}");
+            return ExitCode::from(2);
+        }
+    };
+    match replay(&text) {
+        Ok(lines) => {
+            println!("{name}, {lines} lines as the second program says");
+            ExitCode::SUCCESS
+        }
+        Err((line, wrong)) => {
+            eprintln!("{name}: line {line}: {wrong}");
+            ExitCode::FAILURE
+        }
+    }
+}
+
+/// How many lines were replayed, or the first that is wrong, counted from 1.
+fn replay(text: &str) -> Result<usize, (usize, Wrong)> {
+    let mut lines = text.lines().enumerate();
+    let mut replay = Replay::new();
+    let mut read = 0;
+    while !replay.ended {
+        let (at, line) = lines
+            .next()
+            .ok_or((read + 1, "the transcript stops before its end".into()))?;
+        read = at + 1;
+        let (expected, more) = replay.line(read, line).map_err(|wrong| (read, wrong))?;
+        same(line, &expected).map_err(|wrong| (read, wrong))?;
+        for expected in more {
+            read += 1;
+            let line = lines.next().map_or("", |(_, line)| line);
+            same(line, &expected).map_err(|wrong| (read, wrong))?;
+        }
+    }
+    if let Some((at, line)) = lines.next() {
+        return Err((at + 1, format!("after the end: {line}")));
+    }
+    replay.whole().map_err(|wrong| (read, wrong))?;
+    Ok(read)
+}
+
+fn same(line: &str, expected: &str) -> Result<(), Wrong> {
+    if line == expected {
+        return Ok(());
+    }
+    Err(format!("\n  transcript: {line}\n  expected:   {expected}"))
+}
+
+struct Replay {
+    blocks: BTreeMap<&'static str, Vec<u8>>,
+    calls: u64,
+    met: BTreeSet<String>,
+    numbers: BTreeSet<u32>,
+    /// Ranges that the memory map calls usable, and those added to `block`.
+    usable: Vec<(u64, u64)>,
+    added: Vec<(u64, u64)>,
+    /// Ranges in use before the first call, and those reserved in `block`.
+    held: Vec<(u64, u64)>,
+    reserved: Vec<(u64, u64)>,
+    same: bool,
+    tables: BTreeSet<String>,
+    ended: bool,
+}
+
+impl Replay {
+    fn new() -> Replay {
+        let zero = || vec![0; BLOCK_LEN + GUARD];
+        Replay {
+            blocks: BTreeMap::from([("block", zero()), ("mirror", zero())]),
+            calls: 0,
+            met: BTreeSet::new(),
+            numbers: BTreeSet::new(),
+            usable: Vec::new(),
+            added: Vec::new(),
+            held: Vec::new(),
+            reserved: Vec::new(),
+            same: false,
+            tables: BTreeSet::new(),
+            ended: false,
+        }
+    }
+
+    /// The line that should stand here, and those that should follow it.
+    fn line(&mut self, at: usize, line: &str) -> Result<(String, Vec<String>), Wrong> {
+        if (at == 1) != (line == "boot") {
+            return Err("the transcript does not begin with 'boot'".into());
+        }
+        if let Some((function, rest)) = line.split_once('(') {
+            let (arguments, _) = rest.split_once(')').ok_or("no ')'")?;
+            return Ok((self.call(function, arguments)?, Vec::new()));
+        }
+        let words: Vec<&str> = line.split(' ').collect();
+        let mut more = Vec::new();
+        match words[..] {
+            ["boot"] => {}
+            ["map", "base", base, "size", size, "kind", kind] => {
+                if hex(kind)? == USABLE {
+                    self.usable.push((hex(base)?, hex(size)?));
+                }
+            }
+            ["held", "base", base, "size", size] => {
+                self.held.push((hex(base)?, hex(size)?));
+            }
+            ["fill", name, byte] => {
+                let byte = narrow(hex(byte)?)?;
+                self.block(name)?.fill(byte);
+            }
+            ["poke", name, at, byte] => {
+                let at = hex(at)? as usize;
+                let byte = narrow(hex(byte)?)?;
+                *self.block(name)?.get_mut(at).ok_or("outside the block")? = byte;
+            }
+            ["same", "block", "mirror", _] => {
+                self.same = true;
+                let same = self.blocks["block"] == self.blocks["mirror"];
+                return Ok((format!("same block mirror {:#x}", u8::from(same)), more));
+            }
+            ["use", "base", base, "size", size, "holds", _] => {
+                return Ok((format!("use base {base} size {size} holds 0x1"), more));
+            }
+            ["tables", name] => {
+                let block = self.block(name)?;
+                let board = Board::read(&block[..BLOCK_LEN]).ok_or("not a good block")?;
+                more = tables(&board);
+                self.tables.insert(name.into());
+            }
+            ["end", "calls", _, "lines", _] => {
+                self.ended = true;
+                let (calls, before) = (self.calls, at - 1);
+                return Ok((format!("end calls {calls:#x} lines {before:#x}"), more));
+            }
+            _ => return Err(format!("unknown: {line}")),
+        }
+        Ok((line.into(), more))
+    }
+
+    fn block(&mut self, name: &str) -> Result<&mut Vec<u8>, Wrong> {
+        self.blocks
+            .get_mut(name)
+            .ok_or(format!("no block '{name}'"))
+    }
+
+    /// Makes the call on the second program; its line.
+    fn call(&mut self, function: &str, arguments: &str) -> Result<String, Wrong> {
+        let mut words = arguments.split(", ");
+        let name = words.next().ok_or("no block")?.to_string();
+        let mut numbers = Vec::new();
+        let mut slip_length = None;
+        while let Some(word) = words.next() {
+            if word == "slip" {
+                slip_length = Some(hex(words.next().ok_or("no slip length")?)? as usize);
+            } else {
+                numbers.push(hex(word)?);
+            }
+        }
+        let (&length, numbers) = numbers.split_first().ok_or("no length")?;
+        let ranged = (name == "block" && numbers.len() >= 2).then(|| (numbers[0], numbers[1]));
+        let buffer = self.block(&name)?;
+        let block = buffer
+            .get_mut(..length as usize)
+            .ok_or("longer than the block")?;
+        let mut slip = [FILL; SLIP_LEN + GUARD];
+        let lent = slip
+            .get_mut(..slip_length.unwrap_or(0))
+            .ok_or("longer than the slip")?;
+
+        let number = match (function, numbers, slip_length) {
+            ("memblock_fresh", [], None) => model::fresh(block),
+            ("memblock_set", &[limit, direction], None) => {
+                model::set(block, limit, narrow(direction)?)
+            }
+            ("memblock_add", &[base, size, flags, node], None) => {
+                model::add(block, base, size, narrow(flags)?, narrow(node)?)
+            }
+            ("memblock_remove", &[base, size], None) => model::remove(block, base, size),
+            ("memblock_mark", &[base, size], None) => model::mark(block, base, size),
+            ("memblock_unmark", &[base, size], None) => model::unmark(block, base, size),
+            ("memblock_reserve", &[base, size], None) => model::reserve(block, base, size),
+            ("memblock_free", &[base, size], None) => model::free(block, base, size),
+            ("memblock_trim", &[alignment], None) => model::trim(block, alignment),
+            ("memblock_next_free", &[from, node], Some(_)) => {
+                model::next_free(block, from, narrow(node)?, lent)
+            }
+            ("memblock_find", numbers, Some(_)) => model::find(block, &wish(numbers)?, lent),
+            ("memblock_allocate", numbers, Some(_)) => {
+                model::allocate(block, &wish(numbers)?, lent)
+            }
+            _ => return Err(format!("unknown call: {function}({arguments})")),
+        };
+
+        let mut line = format!(
+            "{function}({arguments}) = {number:#x} sum {:#x}",
+            sum(buffer)
+        );
+        if slip_length == Some(SLIP_LEN) {
+            let half = |at| u64::from_le_bytes(slip[at..at + 8].try_into().expect("8 bytes"));
+            let _ = write!(line, " slip {:#x} {:#x}", half(0), half(8));
+        }
+        if let (Some(range), 0) = (ranged, number) {
+            match function {
+                "memblock_add" => self.added.push(range),
+                "memblock_reserve" => self.reserved.push(range),
+                _ => {}
+            }
+        }
+        self.calls += 1;
+        self.met.insert(function.into());
+        self.numbers.insert(number);
+        Ok(line)
+    }
+
+    /// Whether everything that a boot should show was there.
+    fn whole(&self) -> Result<(), Wrong> {
+        for function in FUNCTIONS {
+            if !self.met.contains(function) {
+                return Err(format!("{function} was never called"));
+            }
+        }
+        for number in 0..NUMBERS {
+            if !self.numbers.contains(&number) {
+                return Err(format!("the number {number} was never answered"));
+            }
+        }
+        if self.added != self.usable {
+            return Err("what was added is not what the map calls usable".into());
+        }
+        if self.held.is_empty()
+            || !self
+                .reserved
+                .starts_with(&[&self.held[..], &[LEGACY]].concat())
+        {
+            return Err("what was in use was not reserved".into());
+        }
+        if !self.same {
+            return Err("the two orders were never compared".into());
+        }
+        if self.tables.len() != self.blocks.len() {
+            return Err("a block's tables are missing".into());
+        }
+        Ok(())
+    }
+}
+
+/// The lines of both tables, totals, limit and direction.
+fn tables(board: &Board) -> Vec<String> {
+    let mut lines = Vec::new();
+    let (mut present, mut taken) = (0, 0);
+    for (lo, hi, tag) in board.memory.stretches() {
+        if let Some(tag) = tag {
+            let flags = if tag.no_map { model::layout::NO_MAP } else { 0 };
+            lines.push(record("memory", lo, hi, flags, tag.node));
+            present += hi - lo;
+        }
+    }
+    for (lo, hi, is_taken) in board.taken.stretches() {
+        if is_taken {
+            lines.push(record("taken", lo, hi, 0, 0));
+            taken += hi - lo;
+        }
+    }
+    let direction = match board.direction {
+        model::Direction::TopDown => 0,
+        model::Direction::BottomUp => 1,
+    };
+    lines.push(format!("totals memory {present:#x} taken {taken:#x}"));
+    lines.push(format!("limit {:#x} direction {direction:#x}", board.limit));
+    lines
+}
+
+fn record(table: &str, lo: u128, hi: u128, flags: u32, node: u32) -> String {
+    format!(
+        "{table} base {lo:#x} size {:#x} flags {flags:#x} node {node:#x}",
+        hi - lo
+    )
+}
+
+fn wish(numbers: &[u64]) -> Result<Wish, Wrong> {
+    let &[size, alignment, start, end, node] = numbers else {
+        return Err("not a search's numbers".into());
+    };
+    Ok(Wish {
+        size,
+        alignment,
+        start,
+        end,
+        node: narrow(node)?,
+    })
+}
+
+/// FNV-1a.
+fn sum(bytes: &[u8]) -> u64 {
+    bytes.iter().fold(0xcbf2_9ce4_8422_2325, |sum, &byte| {
+        (sum ^ u64::from(byte)).wrapping_mul(0x100_0000_01b3)
+    })
+}
+
+fn hex(word: &str) -> Result<u64, Wrong> {
+    word.strip_prefix("0x")
+        .and_then(|digits| u64::from_str_radix(digits, 16).ok())
+        .ok_or(format!("not a number: {word}"))
+}
+
+fn narrow<T: TryFrom<u64>>(number: u64) -> Result<T, Wrong> {
+    T::try_from(number).map_err(|_| format!("too large: {number:#x}"))
+}

@@ -1,0 +1,222 @@
+//! The twelve commands of document 01 as plain Rust: the program that the
+//! library's speed is held against. Same rules, same numbers, same bytes.
+
+#![forbid(unsafe_code)]
+
+mod block;
+mod record;
+mod search;
+
+use block::{Block, Which, LENGTH, SLIP};
+use record::{Record, Tag, NO_MAP, PLAIN};
+use search::{Direction, Wish};
+
+pub const DONE: u32 = 0;
+pub const BAD_BLOCK: u32 = 1;
+pub const BAD_TAG: u32 = 2;
+pub const BAD_ALIGNMENT: u32 = 3;
+pub const SIZE_ZERO: u32 = 4;
+pub const NOT_FOUND: u32 = 5;
+pub const TABLE_FULL: u32 = 6;
+pub const BAD_DIRECTION: u32 = 7;
+pub const BAD_SLIP: u32 = 8;
+
+/// The node that means any.
+pub const ANY_NODE: u32 = u32::MAX;
+
+#[inline(never)]
+pub fn fresh(block: &mut [u8]) -> u32 {
+    if block.len() != LENGTH {
+        return BAD_BLOCK;
+    }
+    block::write_fresh(block);
+    DONE
+}
+
+#[inline(never)]
+pub fn set(block: &mut [u8], limit: u64, direction: u32) -> u32 {
+    let Some(mut block) = Block::check(block) else {
+        return BAD_BLOCK;
+    };
+    if direction > 1 {
+        return BAD_DIRECTION;
+    }
+    block.set(limit, direction);
+    DONE
+}
+
+#[inline(never)]
+pub fn add(block: &mut [u8], base: u64, size: u64, flags: u32, node: u32) -> u32 {
+    let Some(mut block) = Block::check(block) else {
+        return BAD_BLOCK;
+    };
+    let tag = Tag { flags, node };
+    if !tag.is_legal() {
+        return BAD_TAG;
+    }
+    block.change(Which::Memory, base, size, |old| old.or(Some(tag)))
+}
+
+#[inline(never)]
+pub fn remove(block: &mut [u8], base: u64, size: u64) -> u32 {
+    change(block, Which::Memory, base, size, |_| None)
+}
+
+#[inline(never)]
+pub fn mark(block: &mut [u8], base: u64, size: u64) -> u32 {
+    change(block, Which::Memory, base, size, |old| {
+        old.map(|tag| Tag {
+            flags: NO_MAP,
+            ..tag
+        })
+    })
+}
+
+#[inline(never)]
+pub fn unmark(block: &mut [u8], base: u64, size: u64) -> u32 {
+    change(block, Which::Memory, base, size, |old| {
+        old.map(|tag| Tag { flags: 0, ..tag })
+    })
+}
+
+#[inline(never)]
+pub fn reserve(block: &mut [u8], base: u64, size: u64) -> u32 {
+    change(block, Which::Taken, base, size, |_| Some(PLAIN))
+}
+
+#[inline(never)]
+pub fn free(block: &mut [u8], base: u64, size: u64) -> u32 {
+    change(block, Which::Taken, base, size, |_| None)
+}
+
+#[inline(never)]
+pub fn trim(block: &mut [u8], alignment: u64) -> u32 {
+    let Some(mut block) = Block::check(block) else {
+        return BAD_BLOCK;
+    };
+    if !alignment.is_power_of_two() {
+        return BAD_ALIGNMENT;
+    }
+    let trimmed: Vec<Record> = block
+        .records(Which::Memory)
+        .filter_map(|record| record.trim(alignment))
+        .collect();
+    block.replace(Which::Memory, &trimmed);
+    DONE
+}
+
+#[inline(never)]
+pub fn next_free(block: &[u8], from: u64, node: u32, slip: &mut [u8]) -> u32 {
+    let answer = || {
+        let block = Block::check(block).ok_or(BAD_BLOCK)?;
+        check_node(node)?;
+        search::lowest_run(&block, from, node).ok_or(NOT_FOUND)
+    };
+    with_slip(slip, answer)
+}
+
+#[inline(never)]
+pub fn find(
+    block: &[u8],
+    size: u64,
+    alignment: u64,
+    start: u64,
+    end: u64,
+    node: u32,
+    slip: &mut [u8],
+) -> u32 {
+    let answer = || {
+        let block = Block::check(block).ok_or(BAD_BLOCK)?;
+        let address = look(&block, size, alignment, start, end, node)?;
+        Ok((address, address + size))
+    };
+    with_slip(slip, answer)
+}
+
+#[inline(never)]
+pub fn allocate(
+    block: &mut [u8],
+    size: u64,
+    alignment: u64,
+    start: u64,
+    end: u64,
+    node: u32,
+    slip: &mut [u8],
+) -> u32 {
+    let answer = || {
+        let mut block = Block::check(block).ok_or(BAD_BLOCK)?;
+        let address = look(&block, size, alignment, start, end, node)?;
+        match block.change(Which::Taken, address, size, |_| Some(PLAIN)) {
+            DONE => Ok((address, address + size)),
+            refusal => Err(refusal),
+        }
+    };
+    with_slip(slip, answer)
+}
+
+/// A command on a range that has nothing to check but the block.
+fn change(
+    block: &mut [u8],
+    which: Which,
+    base: u64,
+    size: u64,
+    new_tag: impl Fn(Option<Tag>) -> Option<Tag>,
+) -> u32 {
+    match Block::check(block) {
+        Some(mut block) => block.change(which, base, size, new_tag),
+        None => BAD_BLOCK,
+    }
+}
+
+fn check_node(node: u32) -> Result<(), u32> {
+    if node > record::LAST_NODE && node != ANY_NODE {
+        return Err(BAD_TAG);
+    }
+    Ok(())
+}
+
+/// The address that find gives on a good block, or why there is none.
+fn look<B: AsRef<[u8]>>(
+    block: &Block<B>,
+    size: u64,
+    alignment: u64,
+    start: u64,
+    end: u64,
+    node: u32,
+) -> Result<u64, u32> {
+    check_node(node)?;
+    if !alignment.is_power_of_two() {
+        return Err(BAD_ALIGNMENT);
+    }
+    if size == 0 {
+        return Err(SIZE_ZERO);
+    }
+    let end = if end == 0 { block.limit() } else { end };
+    let start = start.max(4096);
+    let wish = Wish {
+        size,
+        alignment,
+        start,
+        end: end.max(start),
+        node,
+    };
+    let direction = match block.direction() {
+        0 => Direction::TopDown,
+        _ => Direction::BottomUp,
+    };
+    search::find(block, &wish, direction).ok_or(NOT_FOUND)
+}
+
+/// Writes the slip: the answer, or zeros for a refusal.
+fn with_slip(slip: &mut [u8], answer: impl FnOnce() -> Result<(u64, u64), u32>) -> u32 {
+    if slip.len() != SLIP {
+        return BAD_SLIP;
+    }
+    let (number, (first, second)) = match answer() {
+        Ok(pair) => (DONE, pair),
+        Err(number) => (number, (0, 0)),
+    };
+    slip[..8].copy_from_slice(&first.to_le_bytes());
+    slip[8..].copy_from_slice(&second.to_le_bytes());
+    number
+}

@@ -1,0 +1,121 @@
+//! Searches over the free runs of a good block.
+
+use crate::block::{Block, Which};
+use crate::record::{Record, NO_MAP};
+use crate::ANY_NODE;
+
+#[derive(Clone, Copy)]
+pub enum Direction {
+    TopDown,
+    BottomUp,
+}
+
+/// What a search asks for, after the window is settled.
+pub struct Wish {
+    pub size: u64,
+    pub alignment: u64,
+    pub start: u64,
+    pub end: u64,
+    pub node: u32,
+}
+
+/// The lowest or highest eligible address.
+pub fn find<B: AsRef<[u8]>>(block: &Block<B>, wish: &Wish, direction: Direction) -> Option<u64> {
+    match direction {
+        Direction::BottomUp => lowest(block, wish.start, wish.end, wish.node, |from, to| {
+            let address = from.checked_next_multiple_of(wish.alignment)?;
+            (address <= to && to - address >= wish.size).then_some(address)
+        }),
+        Direction::TopDown => highest(block, wish.start, wish.end, wish.node, |from, to| {
+            let address = to.checked_sub(wish.size)? & !(wish.alignment - 1);
+            (address >= from).then_some(address)
+        }),
+    }
+}
+
+/// The lowest part of a free run at or above an address.
+pub fn lowest_run<B: AsRef<[u8]>>(block: &Block<B>, from: u64, node: u32) -> Option<(u64, u64)> {
+    lowest(block, from, u64::MAX, node, |from, to| Some((from, to)))
+}
+
+fn is_wanted(record: &Record, node: u32) -> bool {
+    record.tag.flags != NO_MAP && (node == ANY_NODE || record.tag.node == node)
+}
+
+/// Shows `fit` the free runs inside the window, lowest first, until it answers.
+fn lowest<B: AsRef<[u8]>, T>(
+    block: &Block<B>,
+    start: u64,
+    end: u64,
+    node: u32,
+    fit: impl Fn(u64, u64) -> Option<T>,
+) -> Option<T> {
+    let mut taken = block.records(Which::Taken).peekable();
+    for memory in block.records(Which::Memory) {
+        let mut at = memory.base.max(start);
+        let stop = memory.end().min(end);
+        if at >= stop || !is_wanted(&memory, node) {
+            continue;
+        }
+        while let Some(next) = taken.peek() {
+            if next.base >= stop {
+                break;
+            }
+            if at < next.base {
+                if let Some(answer) = fit(at, next.base) {
+                    return Some(answer);
+                }
+            }
+            at = at.max(next.end());
+            if at > stop {
+                break; // it may reach into the next memory record
+            }
+            taken.next();
+        }
+        if at < stop {
+            if let Some(answer) = fit(at, stop) {
+                return Some(answer);
+            }
+        }
+    }
+    None
+}
+
+/// Shows `fit` the free runs inside the window, highest first, until it answers.
+fn highest<B: AsRef<[u8]>, T>(
+    block: &Block<B>,
+    start: u64,
+    end: u64,
+    node: u32,
+    fit: impl Fn(u64, u64) -> Option<T>,
+) -> Option<T> {
+    let mut taken = block.records(Which::Taken).rev().peekable();
+    for memory in block.records(Which::Memory).rev() {
+        let stop = memory.base.max(start);
+        let mut at = memory.end().min(end);
+        if stop >= at || !is_wanted(&memory, node) {
+            continue;
+        }
+        while let Some(next) = taken.peek() {
+            if next.end() <= stop {
+                break;
+            }
+            if next.end() < at {
+                if let Some(answer) = fit(next.end(), at) {
+                    return Some(answer);
+                }
+            }
+            at = at.min(next.base);
+            if at < stop {
+                break; // it may reach into the next memory record
+            }
+            taken.next();
+        }
+        if stop < at {
+            if let Some(answer) = fit(stop, at) {
+                return Some(answer);
+            }
+        }
+    }
+    None
+}

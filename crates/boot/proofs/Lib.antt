@@ -6,3 +6,4 @@ pub mod Standing
 pub mod DemandThree
 pub mod Playing
 pub mod Cases
+pub mod Freed

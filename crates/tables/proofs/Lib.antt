@@ -5,6 +5,7 @@ pub mod Header
 pub mod Blocks
 pub mod Reading
 pub mod Kept
+pub mod Unchanged
 pub mod Fields
 pub mod Setting
 pub mod Printed

@@ -1,0 +1,70 @@
+-- Where each address of its range already stands as a command says, the command is done and every byte stays. Assumes nothing.
+use Prim.Native.Nat.{ℕ}
+use mathlib.Core.Path.{_≡_, refl, sym, ap, _∙_}
+use mathlib.Core.Bool.{Bool, true, false, cond}
+use mathlib.Core.List.{List}
+use native.Mathlib.Omega.{arith}
+use lib.Dec.{leb}
+use lib.ListN.{length}
+use borrow.Author.Tests.{leb-true, le-leb}
+use Rattle.address.proofs.Tests.{both}
+use Rattle.regions.specs.declared.Kind.{Kind}
+use Rattle.regions.specs.declared.Kind.the-variants.{Memory, Taken}
+use Rattle.regions.specs.declared.Region.{Region}
+use Rattle.regions.specs.declared.State.the-variants.{Absent}
+use Rattle.regions.specs.declared.Change.{Change}
+use Rattle.regions.specs.declared.Change.the-variants.{Clear}
+use Rattle.regions.specs.Meaning.{inside, at, top}
+use Rattle.regions.specs.Lists.{goodList}
+use Rattle.regions.specs.Changes.{change, after, cut, changed}
+use Rattle.regions.proofs.Count.{agree}
+use Rattle.regions.proofs.RoundTrip.{inside-hi, round-trip}
+use Rattle.regions.proofs.Good.{good-rises}
+use Rattle.tables.specs.declared.block.Layout.{Layout}
+use Rattle.tables.specs.Block.{capacity, Contents, listOf, withList, contents, good}
+use Rattle.tables.specs.Commands.{done, store, changeRange, free}
+use Rattle.tables.proofs.Blocks.{room, lists-ok, good-contents, good-spelled}
+
+-- each address from base to the cut end of the range stands as the change leaves it
+abbrev pub Stays : Change → ℕ → ℕ → List Region → Type 0
+Stays c base size xs = (a : ℕ) → inside base (cut base size) a ≡ true → change c (at xs a) ≡ at xs a
+
+same-list : (k : Kind) (c : Change) (base size : ℕ) (xs : List Region) → goodList k xs ≡ true → Stays c base size xs → changed c base size xs ≡ xs
+unfolding changed after
+same-list k c base size xs g h =
+    agree (after (change c) base (cut base size) (at xs)) (at xs) top (λ a l. point a (inside base (cut base size) a) refl)
+    ∙ round-trip top xs (good-rises k xs g)
+  where
+    point : (a : ℕ) (t : Bool) → inside base (cut base size) a ≡ t → cond t (change c (at xs a)) (at xs a) ≡ at xs a
+    point a true e = h a e
+    point a false e = refl
+
+with-own : (s : Contents) (k : Kind) → withList s k (listOf s k) ≡ s
+with-own s Memory = refl
+with-own s Taken = refl
+
+module _ (L : Layout) (b : List ℕ) (g : good L b ≡ true) where
+  pub unchanged : (k : Kind) (c : Change) (base size : ℕ) → Stays c base size (listOf (contents L b) k) → changeRange L k c base size b ≡ done b
+  unfolding store
+  unchanged k c base size h =
+      let xs : List Region = listOf (contents L b) k in
+      let p = good-contents L b g in
+      rw (
+        same-list k c base size xs (lists-ok L (contents L b) p k) h,
+        le-leb (length xs) (capacity L k) (room L (contents L b) p k),
+        with-own (contents L b) k,
+      )
+      (ap done (good-spelled L b g))
+
+  -- a size of 0 changes nothing
+  pub size-zero : (k : Kind) (c : Change) (base : ℕ) → changeRange L k c base 0 b ≡ done b
+  size-zero k c base = unchanged k c base 0 (λ a e. absurd (none a e))
+    where
+      none : (a : ℕ) → inside base (cut base 0) a ≡ true → ⊥
+      none a e =
+          omega (arith, inside-hi base (cut base 0) a e, leb-true base a (both (leb base a) _ e .0))
+
+  -- freeing what is not taken changes nothing
+  pub free-untaken : (base size : ℕ) → ((a : ℕ) → inside base (cut base size) a ≡ true → at (contents L b .taken) a ≡ Absent) → free L base size b ≡ done b
+  unfolding free change
+  free-untaken base size h = rw g (unchanged Taken Clear base size (λ a e. sym (h a e)))

@@ -27,7 +27,7 @@
 extern "C" {
 #endif
 
-/* Numbers answered. Checked in the order 8, 1, 2, 3, 4, 7, 5, 6; the first that holds is given. */
+/* Numbers answered. Checked in the order 8, 1, 10, 2, 3, 4, 7, 5, 6; the first that holds is given. */
 #define MEMBLOCK_DONE 0
 #define MEMBLOCK_BAD_BLOCK 1     /* the block is not good (fresh: not MEMBLOCK_BLOCK_LENGTH bytes) */
 #define MEMBLOCK_BAD_TAG 2       /* add: flags not 0 or 4, or node above 63; searches: node above 63 and not any */
@@ -37,6 +37,7 @@ extern "C" {
 #define MEMBLOCK_TABLE_FULL 6    /* the changed table's finished shortest list has more than MEMBLOCK_CAPACITY records */
 #define MEMBLOCK_BAD_DIRECTION 7 /* set: above 1 */
 #define MEMBLOCK_BAD_SLIP 8      /* the slip is not MEMBLOCK_SLIP_LENGTH bytes */
+#define MEMBLOCK_BAD_REPORT 10   /* the report is not whole entries, or more than MEMBLOCK_REPORT_ENTRIES */
 
 /* Directions of a search. */
 #define MEMBLOCK_TOP_DOWN 0
@@ -57,6 +58,15 @@ extern "C" {
 #define MEMBLOCK_SLIP_LENGTH 16
 #define MEMBLOCK_SLIP_BASE_AT 0
 #define MEMBLOCK_SLIP_END_AT 8 /* the first address past the range */
+
+/* An E820 report: entries, little-endian, offsets within one. */
+#define MEMBLOCK_REPORT_ENTRY_LENGTH 20
+#define MEMBLOCK_REPORT_ENTRIES 128 /* the most */
+#define MEMBLOCK_REPORT_BASE_AT 0   /* u64 */
+#define MEMBLOCK_REPORT_SIZE_AT 8   /* u64: the entry's own length */
+#define MEMBLOCK_REPORT_KIND_AT 16  /* u32 */
+#define MEMBLOCK_REPORT_USABLE 1    /* the kind that is added; all other numbers are passed over */
+#define MEMBLOCK_REPORT_TRIM 4096   /* memory is trimmed by this at the end */
 
 /* The block, little-endian. Read it freely; whatever writes it besides these functions must leave a good block, or the next call
  * refuses it with 1. */
@@ -106,7 +116,8 @@ extern "C" {
 #define MEMBLOCK_STACK_NEXT_FREE 320
 #define MEMBLOCK_STACK_FIND 448
 #define MEMBLOCK_STACK_ALLOCATE 3584
-#define MEMBLOCK_STACK 3584 /* the most of these */
+#define MEMBLOCK_STACK_INTAKE_E820 9792
+#define MEMBLOCK_STACK 9792 /* the most of these */
 
 /* Writes a fresh block over any MEMBLOCK_BLOCK_LENGTH bytes: both tables empty, no limit, top-down. Answers 0 or 1. */
 uint32_t memblock_fresh(uint8_t *block, size_t length);
@@ -149,6 +160,14 @@ uint32_t memblock_find(const uint8_t *block, size_t length, uint64_t size, uint6
 /* Reserves what find finds. Answers as find does, or 6; there is no second try at another address. */
 uint32_t memblock_allocate(uint8_t *block, size_t length, uint64_t size, uint64_t alignment, uint64_t start, uint64_t end,
                            uint32_t node, uint8_t *slip, size_t slip_length);
+
+/* Reports. */
+
+/* Takes an E820 report in: its entries in turn, those of kind MEMBLOCK_REPORT_USABLE added as by add with flags 0 and node 0; then
+ * all memory of the block trimmed by MEMBLOCK_REPORT_TRIM. The first entry that add would refuse with 6 ends the intake with 6, even
+ * if the trimmed list would fit, and nothing of the report is in the block. An empty report only trims. The report is not written.
+ * The same entries in another order, neither refused, leave the same block. Answers 0, 1, 10 or 6. */
+uint32_t memblock_intake_e820(uint8_t *block, size_t length, const uint8_t *report, size_t report_length);
 
 #ifdef __cplusplus
 }

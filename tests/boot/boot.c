@@ -1,7 +1,8 @@
-/* A boot: the machine's memory map into the tables, what is in use reserved, allocations in both directions, each kind of refusal.
+/* A boot: the machine's memory map taken in as an E820 report, what is in use reserved, allocations in both directions, each kind of
+ * refusal.
  *
- * Writes a line for each call, with its numbers, the number answered, a sum over the block's bytes and the slip; at the end both
- * tables. tests/transcript replays the lines on the second program. Runs freestanding and hosted. */
+ * Writes a line for each call, with its numbers, the number answered, a sum over the block's bytes and the slip, or a sum over the
+ * report's bytes; at the end both tables. tests/transcript replays the lines on the second program. Runs freestanding and hosted. */
 #include "boot.h"
 #include "memblock.h"
 
@@ -28,6 +29,11 @@ struct lent {
 static struct lent block = {"block", {0}};
 static struct lent mirror = {"mirror", {0}};
 static uint8_t slip[MEMBLOCK_SLIP_LENGTH + GUARD];
+
+/* Room for one entry too many. */
+#define REPORT_MOST ((MEMBLOCK_REPORT_ENTRIES + 1) * MEMBLOCK_REPORT_ENTRY_LENGTH)
+static uint8_t report[REPORT_MOST + GUARD];
+static size_t report_length;
 
 static const struct machine *machine;
 static uint64_t calls;
@@ -82,12 +88,18 @@ static uint64_t slip_end(void)
     return number_at(slip, MEMBLOCK_SLIP_END_AT, 8);
 }
 
-/* FNV-1a over the block and its guard bytes. */
-static uint64_t sum(const struct lent *lent)
+static void put_number(uint8_t *bytes, size_t at, size_t length, uint64_t number)
+{
+    for (size_t i = 0; i < length; i++, number >>= 8)
+        bytes[at + i] = (uint8_t)number;
+}
+
+/* FNV-1a. */
+static uint64_t sum(const uint8_t *bytes, size_t length)
 {
     uint64_t sum = UINT64_C(0xcbf29ce484222325);
-    for (size_t i = 0; i < sizeof lent->bytes; i++)
-        sum = (sum ^ lent->bytes[i]) * UINT64_C(0x100000001b3);
+    for (size_t i = 0; i < length; i++)
+        sum = (sum ^ bytes[i]) * UINT64_C(0x100000001b3);
     return sum;
 }
 
@@ -108,7 +120,7 @@ static void begin(const char *function, const struct lent *lent, size_t length)
 static void answered(const struct lent *lent, uint32_t number)
 {
     named(") = ", number);
-    named(" sum ", sum(lent));
+    named(" sum ", sum(lent->bytes, sizeof lent->bytes));
 }
 
 static uint32_t end(const struct lent *lent, uint32_t number)
@@ -233,6 +245,18 @@ static uint32_t allocate(struct lent *lent, uint64_t size, uint64_t alignment, u
     return allocate_slip(lent, (struct wish){size, alignment, start, end, node, MEMBLOCK_SLIP_LENGTH});
 }
 
+/* The first bytes of the report as it stands. */
+static uint32_t intake(struct lent *lent, size_t length)
+{
+    begin("intake_e820", lent, LENGTH);
+    named(", report, ", length);
+    uint32_t number = memblock_intake_e820(lent->bytes, LENGTH, report, length);
+    answered(lent, number);
+    named(" report ", sum(report, sizeof report));
+    text("\n");
+    return number;
+}
+
 /* Writes by boot code itself, outside the functions. */
 
 static void fill_block(struct lent *lent)
@@ -252,6 +276,30 @@ static void poke(struct lent *lent, size_t at, uint8_t byte)
     text(lent->name);
     named(" ", at);
     named(" ", byte);
+    text("\n");
+}
+
+static void report_begin(void)
+{
+    for (size_t i = 0; i < sizeof report; i++)
+        report[i] = FILL;
+    report_length = 0;
+    named("report ", FILL);
+    text("\n");
+}
+
+static void report_entry(uint64_t base, uint64_t size, uint32_t kind)
+{
+    uint8_t *entry = report + report_length;
+    if (report_length == REPORT_MOST)
+        return;
+    put_number(entry, MEMBLOCK_REPORT_BASE_AT, 8, base);
+    put_number(entry, MEMBLOCK_REPORT_SIZE_AT, 8, size);
+    put_number(entry, MEMBLOCK_REPORT_KIND_AT, 4, kind);
+    report_length += MEMBLOCK_REPORT_ENTRY_LENGTH;
+    named("entry base ", base);
+    named(" size ", size);
+    named(" kind ", kind);
     text("\n");
 }
 
@@ -284,17 +332,39 @@ static void give_back(uint64_t base, uint64_t kept)
 
 /* The parts of a boot. */
 
-/* Each usable entry of the map, then whole pages only, then what is in use. */
-static void take_map(struct lent *lent, int backwards)
+static const struct map_entry *map_entry(size_t i, int backwards)
 {
-    fresh(lent, LENGTH);
-    set(lent, GIB(4), MEMBLOCK_BOTTOM_UP);
+    return &machine->map[backwards ? machine->map_count - 1 - i : i];
+}
+
+/* The map as one report. */
+static void take_report(struct lent *lent, int backwards)
+{
+    report_begin();
     for (size_t i = 0; i < machine->map_count; i++) {
-        const struct map_entry *entry = &machine->map[backwards ? machine->map_count - 1 - i : i];
+        const struct map_entry *entry = map_entry(i, backwards);
+        report_entry(entry->base, entry->size, entry->kind);
+    }
+    intake(lent, report_length);
+}
+
+/* Each usable entry of the map by a call, then whole pages only. */
+static void take_entries(struct lent *lent, int backwards)
+{
+    for (size_t i = 0; i < machine->map_count; i++) {
+        const struct map_entry *entry = map_entry(i, backwards);
         if (entry->kind == MAP_USABLE)
             add(lent, entry->base, entry->size, 0, 0);
     }
     trim(lent, PAGE);
+}
+
+/* The map, then what is in use. */
+static void take_map(struct lent *lent, void (*take)(struct lent *lent, int backwards), int backwards)
+{
+    fresh(lent, LENGTH);
+    set(lent, GIB(4), MEMBLOCK_BOTTOM_UP);
+    take(lent, backwards);
     for (size_t i = 0; i < machine->held_count; i++) {
         const struct held *held = &machine->held[backwards ? machine->held_count - 1 - i : i];
         RESERVE(lent, held->base, held->size);
@@ -302,11 +372,11 @@ static void take_map(struct lent *lent, int backwards)
     RESERVE(lent, 0xA0000, 0x60000); /* the legacy area below 1 MiB */
 }
 
-/* The machine's report in the other order gives the same bytes. */
-static void same_backwards(void)
+/* The machine's report in the other order gives the same bytes, as one report and entry by entry. */
+static void same_backwards(void (*take)(struct lent *lent, int backwards))
 {
     int same = 1;
-    take_map(&mirror, 1);
+    take_map(&mirror, take, 1);
     for (size_t i = 0; i < LENGTH; i++)
         same = same && block.bytes[i] == mirror.bytes[i];
     text("same block mirror ");
@@ -385,6 +455,8 @@ static void bad_block(void)
     find(&block, 0, 3, 0, 0, 64);
     allocate(&block, 0, 3, 0, 0, 64);
     allocate_slip(&block, (struct wish){0, 3, 0, 0, 64, MEMBLOCK_SLIP_LENGTH + 1});
+    intake(&block, report_length);
+    intake(&block, 1);
     poke(&block, MEMBLOCK_MEMORY_TOTAL_AT, byte);
 }
 
@@ -413,6 +485,29 @@ static void refusals(void)
     allocate(&block, PAGE, PAGE, 0, 0, 1);
     allocate(&block, PAGE, 0, 0, 0, ANY);
     allocate(&block, 0, PAGE, 0, 0, ANY);
+}
+
+/* Reports that are refused before an entry is looked at, and others that change nothing. */
+static void reports(struct lent *lent)
+{
+    report_begin();
+    while (report_length < REPORT_MOST)
+        report_entry(FAR_MEMORY + report_length * PAGE, PAGE, MAP_USABLE);
+    intake(lent, report_length);
+    intake(lent, report_length - 1);
+    intake(lent, MEMBLOCK_REPORT_ENTRY_LENGTH - 1);
+    intake(lent, MEMBLOCK_REPORT_ENTRY_LENGTH + 1);
+    intake(lent, 0);
+
+    report_begin();
+    for (uint32_t kind = 2; kind <= 9; kind++)
+        report_entry(FAR_MEMORY, PAGE, kind);
+    report_entry(FAR_MEMORY, PAGE, 0);
+    report_entry(FAR_MEMORY, PAGE, UINT32_MAX);
+    report_entry(FAR_MEMORY, 0, MAP_USABLE);
+    report_entry(UINT64_C(0) - PAGE, 2 * PAGE, MAP_USABLE);
+    report_entry(MEMBLOCK_TOP, 1, MAP_USABLE);
+    intake(lent, report_length);
 }
 
 /* The taken table filled: apart refuses 6, touching does not. */
@@ -444,6 +539,12 @@ static void full_memory(struct lent *lent)
                MEMBLOCK_DONE)
         count++;
     REMOVE(lent, base + PAGE + 16, 16);
+    /* A report whose last entry does not fit leaves nothing behind, even if the trim would have made room. */
+    report_begin();
+    report_entry(base, PAGE, MAP_USABLE);
+    report_entry(FAR_TAKEN + 1, 1, MAP_USABLE);
+    intake(lent, report_length);
+    intake(lent, MEMBLOCK_REPORT_ENTRY_LENGTH);
     MARK(lent, base + PAGE, 16);
     UNMARK(lent, base + 3 * PAGE, 16);
     /* A named end above the limit is taken as given. */
@@ -528,13 +629,15 @@ int boot(const struct machine *runs_on)
     fresh(&block, LENGTH - 1);
     fresh(&block, LENGTH + GUARD);
 
-    take_map(&block, 0);
-    same_backwards();
+    take_map(&block, take_report, 0);
+    same_backwards(take_entries);
+    same_backwards(take_report);
     firmware();
     allocations();
     free_runs(&block, ANY);
     refusals();
     bad_block();
+    reports(&block);
     full_taken(&mirror);
     full_memory(&mirror);
     another_node(&mirror);

@@ -2,14 +2,14 @@
  *
  * Each call runs on a painted stack of its own; the deepest byte that lost its paint says how much was used, bytes of the red zone
  * too. Twice with different paint, so that a byte written with the paint's own value is seen. The blocks have tables of several
- * fills up to full, with ranges on, beside and across their records; some blocks and slips are bad. Fails when a function needs
+ * fills up to full, with ranges on, beside and across their records; some blocks, slips and reports are bad. Fails when a function needs
  * more than memblock.h says. */
 #include "memblock.h"
 
 #include <stdio.h>
 #include <string.h>
 
-#define STACK 16384
+#define STACK 32768
 #define MOST_ARGUMENTS 9
 #define IN_REGISTERS 6
 #define TURNS 300
@@ -41,7 +41,7 @@ __asm__(".text\n"
         "    popq %rbp\n"
         "    ret\n");
 
-enum numbers { NONE, LIMIT, RANGE_TAG, RANGE, ALIGNMENT, FROM, SEARCH };
+enum numbers { NONE, LIMIT, RANGE_TAG, RANGE, ALIGNMENT, FROM, SEARCH, REPORT };
 
 static struct function {
     const char *name;
@@ -63,12 +63,14 @@ static struct function {
     {"next_free", (void (*)(void))memblock_next_free, FROM, MEMBLOCK_STACK_NEXT_FREE, 0, 0, 0},
     {"find", (void (*)(void))memblock_find, SEARCH, MEMBLOCK_STACK_FIND, 0, 0, 0},
     {"allocate", (void (*)(void))memblock_allocate, SEARCH, MEMBLOCK_STACK_ALLOCATE, 0, 0, 0},
+    {"intake_e820", (void (*)(void))memblock_intake_e820, REPORT, MEMBLOCK_STACK_INTAKE_E820, 0, 0, 0},
 };
 
 static _Alignas(16) uint8_t stack[STACK];
 static uint8_t before[MEMBLOCK_BLOCK_LENGTH];
 static uint8_t block[MEMBLOCK_BLOCK_LENGTH];
 static uint8_t slip[MEMBLOCK_SLIP_LENGTH];
+static uint8_t report[(MEMBLOCK_REPORT_ENTRIES + 1) * MEMBLOCK_REPORT_ENTRY_LENGTH];
 
 static uint64_t state = 1;
 
@@ -141,6 +143,21 @@ static uint64_t alignment(void)
     return below(10) == 0 ? any() : UINT64_C(1) << (below(8) == 0 ? below(64) : below(13));
 }
 
+/* Entries as ranges are chosen, most of them few and usable; answers the report's length. */
+static size_t choose_report(void)
+{
+    size_t count = below(8) == 0 ? MEMBLOCK_REPORT_ENTRIES + below(2) : below(6);
+    uint8_t *entry = report;
+    for (size_t i = 0; i < count; i++, entry += MEMBLOCK_REPORT_ENTRY_LENGTH) {
+        uint64_t base = address(), length = size();
+        uint32_t kind = below(8) == 0 ? (uint32_t)below(9) : MEMBLOCK_REPORT_USABLE;
+        memcpy(entry + MEMBLOCK_REPORT_BASE_AT, &base, sizeof base);
+        memcpy(entry + MEMBLOCK_REPORT_SIZE_AT, &length, sizeof length);
+        memcpy(entry + MEMBLOCK_REPORT_KIND_AT, &kind, sizeof kind);
+    }
+    return (size_t)(entry - report) + (below(50) == 0 && count <= MEMBLOCK_REPORT_ENTRIES);
+}
+
 /* Answers how many arguments there are. */
 static size_t choose(enum numbers numbers, uint64_t *arguments)
 {
@@ -166,6 +183,10 @@ static size_t choose(enum numbers numbers, uint64_t *arguments)
         return n;
     case ALIGNMENT:
         arguments[n++] = alignment();
+        return n;
+    case REPORT:
+        arguments[n++] = (uint64_t)(uintptr_t)report;
+        arguments[n++] = choose_report();
         return n;
     case FROM:
         arguments[n++] = address();

@@ -190,6 +190,24 @@ impl<B: AsRef<[u8]> + AsMut<[u8]>> Block<B> {
         self.write_count_and_total(which, records.len(), total);
     }
 
+    /// Rounds each memory record inwards; those of which nothing is left go.
+    pub fn trim(&mut self, alignment: u64) {
+        let trimmed: Vec<Record> = self
+            .records(Which::Memory)
+            .filter_map(|record| record.trim(alignment))
+            .collect();
+        self.replace(Which::Memory, &trimmed);
+    }
+
+    /// A copy of all bytes, to be put back by `restore`.
+    pub fn saved(&self) -> [u8; LENGTH] {
+        self.bytes().try_into().expect("a good block")
+    }
+
+    pub fn restore(&mut self, saved: &[u8; LENGTH]) {
+        self.bytes_mut().copy_from_slice(saved);
+    }
+
     fn write_count_and_total(&mut self, which: Which, count: usize, total: u64) {
         write_u32(self.bytes_mut(), which.entry() + 8, count as u32);
         write_u64(self.bytes_mut(), which.total(), total);

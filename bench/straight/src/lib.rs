@@ -1,14 +1,16 @@
-//! The twelve commands of document 01 as plain Rust: the program that the
-//! library's speed is held against. Same rules, same numbers, same bytes.
+//! The twelve commands of document 01 and the E820 intake of request E1 as plain
+//! Rust: the program that the library's speed is held against. Same rules, same
+//! numbers, same bytes.
 
 #![forbid(unsafe_code)]
 
 mod block;
 mod record;
+mod report;
 mod search;
 
 use block::{Block, Which, LENGTH, SLIP};
-use record::{Record, Tag, NO_MAP, PLAIN};
+use record::{Tag, NO_MAP, PLAIN};
 use search::{Direction, Wish};
 
 pub const DONE: u32 = 0;
@@ -20,6 +22,7 @@ pub const NOT_FOUND: u32 = 5;
 pub const TABLE_FULL: u32 = 6;
 pub const BAD_DIRECTION: u32 = 7;
 pub const BAD_SLIP: u32 = 8;
+pub const BAD_REPORT: u32 = 10;
 
 /// The node that means any.
 pub const ANY_NODE: u32 = u32::MAX;
@@ -97,11 +100,29 @@ pub fn trim(block: &mut [u8], alignment: u64) -> u32 {
     if !alignment.is_power_of_two() {
         return BAD_ALIGNMENT;
     }
-    let trimmed: Vec<Record> = block
-        .records(Which::Memory)
-        .filter_map(|record| record.trim(alignment))
-        .collect();
-    block.replace(Which::Memory, &trimmed);
+    block.trim(alignment);
+    DONE
+}
+
+#[inline(never)]
+pub fn intake_e820(block: &mut [u8], report: &[u8]) -> u32 {
+    let Some(mut block) = Block::check(block) else {
+        return BAD_BLOCK;
+    };
+    let Some(entries) = report::entries(report) else {
+        return BAD_REPORT;
+    };
+    let saved = block.saved();
+    for entry in entries.filter(|entry| entry.kind == report::USABLE) {
+        let number = block.change(Which::Memory, entry.base, entry.size, |old| {
+            old.or(Some(PLAIN))
+        });
+        if number != DONE {
+            block.restore(&saved);
+            return number;
+        }
+    }
+    block.trim(report::PAGE);
     DONE
 }
 

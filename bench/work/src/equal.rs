@@ -1,40 +1,90 @@
 //! Random calls on both sides, to show that they follow the same rules.
 
 use crate::rng::Rng;
-use crate::sides::{call_both, Block, Call, ANY_NODE, LENGTH};
+use crate::sides::{call_both, entry, Block, Call, ANY_NODE, LENGTH};
 
 /// Makes this many calls; fails at the first difference.
 pub fn random_calls(calls: u64) {
     let mut rng = Rng(1);
     let mut block = Block::fresh();
-    let mut seen = [0u64; 9];
+    let mut seen = [0u64; 11];
     for turn in 0..calls {
         if turn % 2000 == 0 {
             block = Block::fresh();
         }
         let call = random_call(&mut rng, turn % 4000 < 2000);
         if rng.between(0, 19) == 0 {
-            let mut damaged = block.clone();
-            let at = if rng.between(0, 1) == 0 {
-                79
-            } else {
-                LENGTH - 1
-            };
-            damaged.0[rng.between(0, at as u64) as usize] ^= 1 << rng.between(0, 7);
+            let mut damaged = damaged(&mut rng, &block);
             seen[call_both(call, &mut damaged) as usize] += 1;
         }
         seen[call_both(call, &mut block) as usize] += 1;
+        if turn % 20 == 0 {
+            // An intake trims small ranges away: mostly go on from the block before.
+            let report = random_report(&mut rng);
+            let call = Call::Intake(&report);
+            if rng.between(0, 19) == 0 {
+                let mut damaged = damaged(&mut rng, &block);
+                seen[call_both(call, &mut damaged) as usize] += 1;
+            }
+            let mut after = block.clone();
+            seen[call_both(call, &mut after) as usize] += 1;
+            if rng.between(0, 9) == 0 {
+                block = after;
+            }
+        }
     }
-    // 8 needs a slip of another length and is left to the tests.
-    assert!(seen[..8].iter().all(|&n| n > 0), "not every number met");
+    // 8 needs a slip of another length and is left to the tests; there is no 9.
+    let met = |number: usize| seen[number] > 0;
+    assert!((0..8).chain([10]).all(met), "not every number met");
     println!(
         "bench: {} random calls on both, all equal",
         seen.iter().sum::<u64>()
     );
 }
 
+/// The block with one bit turned.
+fn damaged(rng: &mut Rng, block: &Block) -> Block {
+    let mut damaged = block.clone();
+    let at = if rng.between(0, 1) == 0 {
+        79
+    } else {
+        LENGTH - 1
+    };
+    damaged.0[rng.between(0, at as u64) as usize] ^= 1 << rng.between(0, 7);
+    damaged
+}
+
+/// Ranges of some pages, most of them usable; now and then of a wrong length.
+fn random_report(rng: &mut Rng) -> Vec<u8> {
+    let count = match rng.between(0, 19) {
+        0 => 0,
+        1 => rng.between(127, 129),
+        _ => rng.between(1, 8),
+    };
+    let mut report = Vec::new();
+    for _ in 0..count {
+        let mut base = rng.between(0, 4000) << 10;
+        let mut size = rng.between(0, 40) << 10;
+        match rng.between(0, 29) {
+            0 => base = u64::MAX - base,
+            1 => size = u64::MAX - size,
+            2..=9 => size += rng.between(0, 1023),
+            _ => (),
+        }
+        let kind = match rng.between(0, 9) {
+            0 => rng.between(0, 8) as u32,
+            _ => 1,
+        };
+        report.extend(entry(base, size, kind));
+    }
+    if rng.between(0, 29) == 0 {
+        report.push(0);
+    }
+    report
+}
+
 /// With `wide` the ranges are far apart and tables fill up.
-fn random_call(rng: &mut Rng, wide: bool) -> Call {
+fn random_call(rng: &mut Rng, wide: bool) -> Call<'static> {
     let shift = if wide { 10 } else { 4 };
     let mut base = rng.between(0, 4000) << shift;
     let mut size = rng.between(0, 40) * rng.between(1, 24);

@@ -44,7 +44,7 @@ fn filled(fill: u64, direction: u32) -> Block {
 }
 
 /// The calls that are measured: name, direction of the block, call.
-fn calls(fill: u64) -> [(&'static str, u32, Call); 9] {
+fn calls(fill: u64) -> [(&'static str, u32, Call<'static>); 9] {
     let middle = base(fill / 2);
     let apart = middle - STEP / 2;
     let find = Call::Find(2 * PAGE, PAGE, 0, 0, ANY_NODE);

@@ -1,8 +1,9 @@
-//! The work of request E11: 128 shuffled ranges added one by one, a trim by
-//! 4096, then 400 allocations of a page.
+//! The work of request E11: an E820 report of 128 shuffled entries, then 400
+//! allocations of a page. Beside it the same ranges by calls: added one by one,
+//! then a trim by 4096.
 
 use crate::rng::Rng;
-use crate::sides::{Block, Call, Library, Side, Slip, Straight, ANY_NODE, LENGTH, TOP_DOWN};
+use crate::sides::{entry, Block, Call, Library, Side, Slip, Straight, ANY_NODE, LENGTH, TOP_DOWN};
 use crate::time::{median, nanoseconds};
 use std::hint::black_box;
 use std::time::Instant;
@@ -10,6 +11,7 @@ use std::time::Instant;
 const RANGES: u64 = 128;
 const ALLOCATIONS: usize = 400;
 const PAGE: u64 = 4096;
+const USABLE: u32 = 1;
 const WARM_UP: usize = 20;
 
 /// Whole pages of a range; it is told if allocations come to the range last.
@@ -31,96 +33,140 @@ fn ranges(seed: u64, pages: Pages, direction: u32) -> Vec<(u64, u64)> {
     list
 }
 
-/// The calls of one run, in order.
-fn calls(ranges: &[(u64, u64)], direction: u32) -> Vec<Call> {
+fn report(ranges: &[(u64, u64)]) -> Vec<u8> {
+    let entries = ranges.iter().map(|&(base, size)| entry(base, size, USABLE));
+    entries.flatten().collect()
+}
+
+/// A block with the report taken in.
+fn intake(report: &[u8], direction: u32) -> [Call<'_>; 3] {
+    let set = Call::Set(u64::MAX, direction);
+    [Call::Fresh, set, Call::Intake(report)]
+}
+
+/// The same by calls of add and trim.
+fn intake_by_calls(ranges: &[(u64, u64)], direction: u32) -> Vec<Call<'static>> {
     let mut calls = vec![Call::Fresh, Call::Set(u64::MAX, direction)];
-    calls.extend(
-        ranges
-            .iter()
-            .map(|&(base, size)| Call::Add(base, size, 0, 0)),
-    );
+    let adds = ranges
+        .iter()
+        .map(|&(base, size)| Call::Add(base, size, 0, 0));
+    calls.extend(adds);
     calls.push(Call::Trim(PAGE));
-    calls.extend([Call::Allocate(PAGE, PAGE, 0, 0, ANY_NODE); ALLOCATIONS]);
     calls
 }
 
-/// What a run left, and its times in nanoseconds.
+/// What calls left, and their time in nanoseconds.
 struct Run {
     block: Box<Block>,
     answers: Vec<(u32, Slip)>,
-    /// Up to the trim, and from there.
-    times: [f64; 2],
+    time: f64,
 }
 
-fn run<S: Side>(calls: &[Call]) -> Run {
-    let mut block = Box::new(Block([0xa5; LENGTH]));
+fn run<S: Side>(calls: &[Call], mut block: Box<Block>) -> Run {
     let mut answers = vec![(u32::MAX, [0; 16]); calls.len()];
-    let (intake, allocations) = calls.split_at(calls.len() - ALLOCATIONS);
-    let mut times = [0.0; 2];
-    let mut answer = answers.iter_mut();
-    for (calls, time) in [intake, allocations].into_iter().zip(&mut times) {
-        let start = Instant::now();
-        for (&call, (number, slip)) in calls.iter().zip(&mut answer) {
-            *number = S::call(black_box(call), &mut block, slip);
-        }
-        *time = nanoseconds(start);
+    let start = Instant::now();
+    for (&call, (number, slip)) in calls.iter().zip(&mut answers) {
+        *number = S::call(black_box(call), &mut block, slip);
     }
+    let time = nanoseconds(start);
+    assert!(answers.iter().all(|a| a.0 == 0), "a call refused");
     Run {
         block,
         answers,
-        times,
+        time,
     }
 }
 
-/// Times of many runs of both sides: the intake, the allocations, the whole.
+/// The parts that are timed.
+const INTAKE: usize = 0;
+const ALLOCATIONS_ONLY: usize = 1;
+const WHOLE: usize = 2;
+const BY_CALLS: usize = 3;
+
+/// Times of many runs of both sides, by part.
 #[derive(Default)]
 pub struct Times {
-    library: [Vec<f64>; 3],
-    straight: [Vec<f64>; 3],
+    library: [Vec<f64>; 4],
+    straight: [Vec<f64>; 4],
 }
 
-/// Prints the medians over the runs of all seeds, for the whole work with the
-/// ratio of each seed, then for its two parts.
+/// Medians of a part over the runs of all seeds, in milliseconds.
+fn medians(seeds: &[Times], part: usize) -> (f64, f64) {
+    let library = median(seeds.iter().flat_map(|times| &times.library[part]));
+    let straight = median(seeds.iter().flat_map(|times| &times.straight[part]));
+    (library / 1e6, straight / 1e6)
+}
+
+/// Prints the medians for the whole work with the ratio of each seed, then for
+/// its two parts, then for the intake by calls.
 pub fn print(name: &str, seeds: &[Times]) {
-    for (part, what) in [(2, ""), (0, ", intake only"), (1, ", allocations only")] {
-        let library = median(seeds.iter().flat_map(|times| &times.library[part])) / 1e6;
-        let straight = median(seeds.iter().flat_map(|times| &times.straight[part])) / 1e6;
+    for (part, what) in [
+        (WHOLE, ""),
+        (INTAKE, ", intake only"),
+        (ALLOCATIONS_ONLY, ", allocations only"),
+        (BY_CALLS, ", intake by add and trim only"),
+    ] {
+        let (library, straight) = medians(seeds, part);
         print!(
             "bench: {name}{what}: library {library:.3} ms, straightforward {straight:.3} ms, \
              ratio {:.2}",
             library / straight
         );
-        if part == 2 {
+        if part == WHOLE {
             let ratios: Vec<String> = seeds
                 .iter()
-                .map(|times| median(&times.library[2]) / median(&times.straight[2]))
+                .map(|times| median(&times.library[WHOLE]) / median(&times.straight[WHOLE]))
                 .map(|ratio| format!("{ratio:.2}"))
                 .collect();
             print!(" (by seed {})", ratios.join(" "));
+        }
+        if part == BY_CALLS {
+            let one = medians(seeds, INTAKE);
+            print!(
+                "; the intake call takes {:.2} and {:.2} of that",
+                one.0 / library,
+                one.1 / straight
+            );
         }
         println!();
     }
 }
 
+/// One side's runs of the work and of the intake by calls.
+fn one_turn<S: Side>(work: [&[Call]; 2], by_calls: &[Call]) -> [Run; 3] {
+    let new = || Box::new(Block([0xa5; LENGTH]));
+    let intake = run::<S>(work[0], new());
+    let allocations = run::<S>(work[1], intake.block.clone());
+    let by_calls = run::<S>(by_calls, new());
+    assert!(by_calls.block == intake.block, "an intake is not its calls");
+    [intake, allocations, by_calls]
+}
+
 /// Runs both sides in turn and compares what each pair of runs leaves.
 pub fn measure(seed: u64, pages: Pages, direction: u32, runs: usize) -> Times {
-    let calls = calls(&ranges(seed, pages, direction), direction);
+    let ranges = ranges(seed, pages, direction);
+    let report = report(&ranges);
+    let intake = intake(&report, direction);
+    let allocations = [Call::Allocate(PAGE, PAGE, 0, 0, ANY_NODE); ALLOCATIONS];
+    let by_calls = intake_by_calls(&ranges, direction);
     let mut times = Times::default();
     for turn in 0..WARM_UP + runs {
-        let library = run::<Library>(&calls);
-        let straight = run::<Straight>(&calls);
-        assert!(library.answers == straight.answers, "answers differ");
-        assert!(library.block == straight.block, "blocks differ");
-        assert!(library.answers.iter().all(|a| a.0 == 0), "a call refused");
+        let library = one_turn::<Library>([&intake, &allocations], &by_calls);
+        let straight = one_turn::<Straight>([&intake, &allocations], &by_calls);
+        for (one, other) in library.iter().zip(&straight) {
+            assert!(one.answers == other.answers, "answers differ");
+            assert!(one.block == other.block, "blocks differ");
+        }
         if turn >= WARM_UP {
-            for (lists, run) in [
-                (&mut times.library, &library),
-                (&mut times.straight, &straight),
+            for (lists, runs) in [
+                (&mut times.library, library),
+                (&mut times.straight, straight),
             ] {
-                let [intake, allocations] = run.times;
-                lists[0].push(intake);
-                lists[1].push(allocations);
-                lists[2].push(intake + allocations);
+                let [intake, allocations, by_calls] = runs.map(|run| run.time);
+                lists[INTAKE].push(intake);
+                lists[ALLOCATIONS_ONLY].push(allocations);
+                lists[WHOLE].push(intake + allocations);
+                lists[BY_CALLS].push(by_calls);
             }
         }
     }

@@ -22,7 +22,7 @@ impl Block {
 pub type Slip = [u8; 16];
 
 #[derive(Clone, Copy, Debug)]
-pub enum Call {
+pub enum Call<'a> {
     Fresh,
     Set(u64, u32),
     Add(u64, u64, u32, u32),
@@ -36,6 +36,17 @@ pub enum Call {
     /// Size, alignment, start, end, node.
     Find(u64, u64, u64, u64, u32),
     Allocate(u64, u64, u64, u64, u32),
+    /// The report's bytes.
+    Intake(&'a [u8]),
+}
+
+/// The 20 bytes of an entry of an E820 report.
+pub fn entry(base: u64, size: u64, kind: u32) -> [u8; 20] {
+    let mut bytes = [0; 20];
+    bytes[..8].copy_from_slice(&base.to_le_bytes());
+    bytes[8..16].copy_from_slice(&size.to_le_bytes());
+    bytes[16..].copy_from_slice(&kind.to_le_bytes());
+    bytes
 }
 
 pub trait Side {
@@ -64,6 +75,7 @@ impl Side for Straight {
             Call::Allocate(size, alignment, start, end, node) => {
                 straight::allocate(b, size, alignment, start, end, node, slip)
             }
+            Call::Intake(report) => straight::intake_e820(b, report),
         }
     }
 }
@@ -85,6 +97,7 @@ extern "C" {
         node: u32, slip: *mut u8, slip_len: usize) -> u32;
     fn memblock_allocate(block: *mut u8, len: usize, size: u64, alignment: u64, start: u64, end: u64,
         node: u32, slip: *mut u8, slip_len: usize) -> u32;
+    fn memblock_intake_e820(block: *mut u8, len: usize, report: *const u8, report_len: usize) -> u32;
 }
 
 pub struct Library;
@@ -93,7 +106,8 @@ impl Side for Library {
     fn call(call: Call, block: &mut Block, slip: &mut Slip) -> u32 {
         let (b, n) = (block.0.as_mut_ptr(), LENGTH);
         let (s, m) = (slip.as_mut_ptr(), slip.len());
-        // Block and slip are whole, writable and apart: they are two `&mut`.
+        // Block and slip are whole, writable and apart: they are two `&mut`. The
+        // report is only read.
         unsafe {
             match call {
                 Call::Fresh => memblock_fresh(b, n),
@@ -112,6 +126,7 @@ impl Side for Library {
                 Call::Allocate(size, alignment, start, end, node) => {
                     memblock_allocate(b, n, size, alignment, start, end, node, s, m)
                 }
+                Call::Intake(report) => memblock_intake_e820(b, n, report.as_ptr(), report.len()),
             }
         }
     }

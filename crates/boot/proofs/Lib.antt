@@ -7,3 +7,4 @@ pub mod DemandThree
 pub mod Playing
 pub mod Cases
 pub mod Freed
+pub mod Reports

@@ -41,7 +41,7 @@ use Rattle.search.proofs.Eligible.{eligible-below, found-eligible}
 use Rattle.search.proofs.Twins.{walk, walkDown, falling}
 use Rattle.search.proofs.WalkLow.{walk-lowest}
 use Rattle.search.proofs.WalkHigh.{walk-highest}
-use Rattle.boot.specs.Calls.{Command, Call, toFresh, toSet, toCommand, toTrim, toFind, toNextFree, toAllocate, answerOf, answers}
+use Rattle.boot.specs.Calls.{Command, Call, toFresh, toSet, toCommand, toTrim, toFind, toNextFree, toAllocate, toIntake, answerOf, answers}
 use Rattle.boot.specs.Lists.{table}
 use Rattle.boot.proofs.Steps.{changeOf, legalVerb, outcome-is}
 
@@ -103,6 +103,7 @@ play (toTrim align) s = played 0 (withList s Memory (roundEach align (s .memory)
 play (toFind q slip) s = finds s q (seek s q)
 play (toNextFree from node slip) s = played 0 s []
 play (toAllocate q slip) s = takes s q (seek s q)
+play (toIntake report) s = played 0 s []
 
 -- the call is one that this twin works out: no check refuses it
 abbrev asks : Query → List ℕ → Bool
@@ -116,6 +117,7 @@ playable (toTrim align) = powerOfTwo align
 playable (toFind q slip) = asks q slip
 playable (toNextFree from node slip) = false
 playable (toAllocate q slip) = asks q slip
+playable (toIntake report) = false
 
 -- the answer that is played
 abbrev pub told : Played → Answer
@@ -238,6 +240,7 @@ call-played (toTrim align) s sp e = trim-played s sp align e
 call-played (toFind q slip) s sp e = find-played s sp q slip e
 call-played (toNextFree from node slip) s sp e = let z : _≡_ {A = ℕ} 0 1 = cc in absurd (omega arith)
 call-played (toAllocate q slip) s sp e = allocate-played s sp q slip e
+call-played (toIntake report) s sp e = let z : _≡_ {A = ℕ} 0 1 = cc in absurd (omega arith)
 
 unfoldable pub plays : List Call → Contents → List Played
 plays [] s = []

@@ -4,6 +4,7 @@ use mathlib.Core.List.{List, [], _∷_}
 use Rattle.regions.specs.declared.Tag.{Tag}
 use Rattle.tables.specs.Block.{current}
 use Rattle.tables.specs.Commands.{Outcome, fresh, set, add, remove, mark, unmark, reserve, free, trim}
+use Rattle.intake.specs.E820.{intakeE820}
 use Rattle.search.specs.declared.Query.{Query}
 use Rattle.search.specs.Answers.{Answer, answer, find, allocate, nextFree}
 
@@ -42,6 +43,7 @@ pub data Call : Type 0 where
   toFind : Query → (slip : List ℕ) → Call
   toNextFree : (from node : ℕ) → (slip : List ℕ) → Call
   toAllocate : Query → (slip : List ℕ) → Call
+  toIntake : (report : List ℕ) → Call
 
 -- a call without a slip leaves none
 abbrev pub plain : Outcome → Answer
@@ -56,6 +58,7 @@ answerOf (toTrim align) b = plain (trim current align b)
 answerOf (toFind q slip) b = find current q b slip
 answerOf (toNextFree from node slip) b = nextFree current from node b slip
 answerOf (toAllocate q slip) b = allocate current q b slip
+answerOf (toIntake report) b = plain (intakeE820 current report b)
 
 -- the answers of a list of calls, each on the block that the one before it left
 unfoldable pub answers : List Call → List ℕ → List Answer

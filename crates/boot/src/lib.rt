@@ -5,6 +5,7 @@ use regions::Tag;
 use search::Query;
 ghost use mathlib.Core.Path.{_≡_};
 ghost use Rattle.tables.specs.Block.{current};
+ghost use Rattle.intake.specs.E820.{intakeE820};
 ghost use Rattle.search.specs.Search.{query};
 ghost use Rattle.search.specs.Answers.{answer, find, nextFree, allocate};
 ghost use Rattle.tables.specs.Commands.{outcome, fresh, set, add, remove, mark, unmark, reserve, free, trim};
@@ -133,4 +134,12 @@ pub extern "C" fn memblock_allocate(
         node,
     };
     search::allocate::allocate(block, q, slip)
+}
+
+// Takes an E820 report in, whole or not at all.
+#[no_mangle]
+pub extern "C" fn memblock_intake_e820(block: &mut [u8], report: &[u8]) -> u32
+    ensures { λ r. ⌜ outcome r (now (block .exit)) ≡ intakeE820 current (now (report .entry)) (now (block .entry)) ⌝ }
+{
+    intake::e820::intake(block, report)
 }

@@ -2,6 +2,7 @@
 
 use crate::archive;
 use model::Wish;
+use std::sync::Arc;
 
 #[derive(Clone, Copy, Debug, PartialEq, Eq, Hash, PartialOrd, Ord)]
 pub enum Command {
@@ -17,13 +18,15 @@ pub enum Command {
     NextFree,
     Find,
     Allocate,
+    Intake,
 }
 
 use Command::*;
 
 impl Command {
-    pub const ALL: [Command; 12] = [
+    pub const ALL: [Command; 13] = [
         Fresh, Set, Add, Remove, Mark, Unmark, Reserve, Free, Trim, NextFree, Find, Allocate,
+        Intake,
     ];
 
     /// The commands that demand 3 speaks of.
@@ -43,10 +46,11 @@ impl Command {
             NextFree => "memblock_next_free",
             Find => "memblock_find",
             Allocate => "memblock_allocate",
+            Intake => "memblock_intake_e820",
         }
     }
 
-    /// The numbers that document 01 allows.
+    /// The numbers that document 01 and request E1 allow.
     pub fn allowed(self) -> &'static [u32] {
         match self {
             Fresh => &[0, 1],
@@ -57,6 +61,7 @@ impl Command {
             NextFree => &[0, 8, 1, 2, 5],
             Find => &[0, 8, 1, 2, 3, 4, 5],
             Allocate => &[0, 8, 1, 2, 3, 4, 5, 6],
+            Intake => &[0, 1, 10, 6],
         }
     }
 
@@ -73,7 +78,7 @@ impl Command {
     }
 }
 
-#[derive(Clone, Copy, Debug, PartialEq, Eq, Hash)]
+#[derive(Clone, Debug, PartialEq, Eq, Hash)]
 pub enum Call {
     Fresh,
     Set {
@@ -101,6 +106,8 @@ pub enum Call {
     },
     Find(Wish),
     Allocate(Wish),
+    /// With the report's bytes.
+    Intake(Arc<[u8]>),
 }
 
 impl Call {
@@ -114,6 +121,15 @@ impl Call {
             Call::NextFree { .. } => NextFree,
             Call::Find(_) => Find,
             Call::Allocate(_) => Allocate,
+            Call::Intake(_) => Intake,
+        }
+    }
+
+    /// The report's bytes, none for other commands.
+    pub fn report(&self) -> &[u8] {
+        match self {
+            Call::Intake(report) => report,
+            _ => &[],
         }
     }
 
@@ -146,6 +162,7 @@ impl Call {
                 ("end", w.end),
                 ("node", w.node.into()),
             ],
+            Call::Intake(ref report) => vec![("report_length", report.len() as u64)],
         };
         let numbers: Vec<String> = numbers
             .iter()
@@ -180,14 +197,16 @@ impl Call {
             Call::NextFree { from, node } => model::next_free(block, from, node, slip),
             Call::Find(wish) => model::find(block, &wish, slip),
             Call::Allocate(wish) => model::allocate(block, &wish, slip),
+            Call::Intake(ref report) => model::intake_e820(block, report),
         }
     }
 
-    /// The same call on the archive.
-    pub fn on_archive(&self, block: &mut [u8], slip: &mut [u8]) -> u32 {
+    /// The same call on the archive; `report` is lent in the place of its own.
+    pub fn on_archive(&self, block: &mut [u8], slip: &mut [u8], report: &mut [u8]) -> u32 {
         let (b, len) = (block.as_mut_ptr(), block.len());
         let (s, slip_len) = (slip.as_mut_ptr(), slip.len());
-        // The pointers and lengths name the two buffers above, which share no byte.
+        let (r, report_len) = (report.as_mut_ptr(), report.len());
+        // The pointers and lengths name the three buffers above, which share no byte.
         unsafe {
             match *self {
                 Call::Fresh => archive::memblock_fresh(b, len),
@@ -236,6 +255,7 @@ impl Call {
                     s,
                     slip_len,
                 ),
+                Call::Intake(_) => archive::memblock_intake_e820(b, len, r, report_len),
             }
         }
     }

@@ -1,8 +1,10 @@
-//! The twelve cases of document 01, run through the archive.
+//! The twelve cases of document 01 and those of request E1, run through the
+//! archive.
 
 use crate::blocks::{get_u64, read_recs};
 use crate::call::{Call, Command};
 use crate::desk::Desk;
+use crate::reports::{self, Entry};
 use model::layout::*;
 use model::Wish;
 
@@ -28,7 +30,7 @@ impl Case<'_> {
     fn expect<T: PartialEq + std::fmt::Debug>(&self, what: &str, got: T, wanted: T) {
         if got != wanted {
             self.desk
-                .fail(&format!("{what}: {got:x?}, document 01 says {wanted:x?}"));
+                .fail(&format!("{what}: {got:x?}, the rules say {wanted:x?}"));
         }
     }
 
@@ -60,6 +62,18 @@ impl Case<'_> {
             },
             number,
         );
+    }
+
+    fn intake(&mut self, entries: &[(u64, u64, u32)], number: u32) {
+        let entries: Vec<Entry> = entries
+            .iter()
+            .map(|&(base, length, kind)| Entry { base, length, kind })
+            .collect();
+        self.intake_bytes(&reports::bytes(&entries), number);
+    }
+
+    fn intake_bytes(&mut self, report: &[u8], number: u32) {
+        self.does(Call::Intake(report.into()), number);
     }
 
     fn turn(&mut self, direction: u32) {
@@ -128,7 +142,7 @@ fn wish(size: u64, alignment: u64) -> Wish {
 }
 
 pub fn run(desk: &mut Desk) -> u32 {
-    let cases: [fn(&mut Desk); 13] = [
+    let cases: [fn(&mut Desk); 19] = [
         printed,
         one,
         two_and_three,
@@ -142,6 +156,12 @@ pub fn run(desk: &mut Desk) -> u32 {
         eleven,
         eleven_taken,
         twelve,
+        report_lengths,
+        report_kinds,
+        report_full,
+        report_at_the_top,
+        report_over_what_is_there,
+        report_in_two_orders,
     ];
     for (turn, case) in cases.iter().enumerate() {
         desk.turn = turn as u64;
@@ -332,4 +352,111 @@ fn twelve(desk: &mut Desk) {
     c.next_free(0x18800, Ok((0x19000, 0x20000)));
     c.next_free(0x1A000, Ok((0x1A000, 0x20000)));
     c.next_free(0x20000, Err(5));
+}
+
+/// `count` usable pages with one page between, from `base`.
+fn pages(base: u64, count: u64) -> Vec<(u64, u64, u32)> {
+    (0..count)
+        .map(|i| (base + i * 0x2000, 0x1000, USABLE))
+        .collect()
+}
+
+fn report_lengths(desk: &mut Desk) {
+    let most = REPORT_ENTRIES as u64;
+    let mut c = Case::new(desk);
+    c.intake(&pages(0x10000, most), 0);
+    c.count(&MEMORY, most);
+    let mut c = Case::new(desk);
+    c.intake(&pages(0x10000, most + 1), 10);
+    for len in [1, 19, 21, 2559, 2561] {
+        c.intake_bytes(&vec![0; len], 10);
+    }
+    c.table(&MEMORY, &[]);
+    c.intake_bytes(&[], 0);
+    c.intake_bytes(&[0; 20], 0);
+    c.block[0] = 0;
+    c.intake_bytes(&[0; 19], 1);
+    c.intake(&pages(0x10000, most + 1), 1);
+}
+
+fn report_kinds(desk: &mut Desk) {
+    for kind in (0..=9).chain([257, 1 << 24, u32::MAX]) {
+        let mut c = Case::new(desk);
+        c.intake(&[(0x10000, 0x1000, kind)], 0);
+        c.count(&MEMORY, u64::from(kind == USABLE));
+    }
+}
+
+fn report_full(desk: &mut Desk) {
+    let most = MEMORY.capacity as u64;
+    let mut c = Case::new(desk);
+    c.intake(&pages(0x10000, most - 1), 0);
+    let nearly = c.block.clone();
+    // The second of these does not fit, so the first is not there either.
+    let far = pages(0x100_0000, 2);
+    c.intake(&far, 6);
+    c.expect("block", c.block.clone(), nearly.clone());
+    c.intake(&[far[0], (0x100_1000, 0x1000, 1), far[1]], 0);
+    c.count(&MEMORY, most);
+    // A byte that the trim would take away is refused as well.
+    c.intake(&[(0x1, 1, 1)], 6);
+    c.intake(&[(0x1, 1, 2)], 0);
+    c.intake(&[(0x10000, 0x100_0000, 1)], 0);
+    c.count(&MEMORY, 1);
+    // 10 comes before 6.
+    c.block = nearly;
+    c.intake(&pages(0x100_0000, most + 1), 10);
+}
+
+fn report_at_the_top(desk: &mut Desk) {
+    let page = u64::MAX - 4095;
+    for (entry, wanted) in [
+        ((page, 0x2000), None),
+        ((u64::MAX, 1), None),
+        ((page + 1, 0xFFE), None),
+        ((page - 0x1000, 0x1000), Some(0x1000)),
+        ((page - 0x1000, 0x2000), Some(0x1000)),
+        ((page - 0x1000, u64::MAX), Some(0x1000)),
+    ] {
+        let mut c = Case::new(desk);
+        c.intake(&[(entry.0, entry.1, 1), (0x1000, 0, 1)], 0);
+        let wanted: Vec<_> = wanted
+            .map(|size| (entry.0, size, 0, 0))
+            .into_iter()
+            .collect();
+        c.table(&MEMORY, &wanted);
+    }
+}
+
+/// What was there keeps its tag and is trimmed too; what is taken stays.
+fn report_over_what_is_there(desk: &mut Desk) {
+    let mut c = Case::new(desk);
+    c.add(0x2000, 0x1000, 9);
+    c.add(0x5000, 0x1800, 1);
+    c.add(0x20001, 0x1000, 2);
+    c.range(Command::Reserve, 0x2800, 0x10, 0);
+    c.intake(&[(0x1000, 0x7000, 1)], 0);
+    c.table(
+        &MEMORY,
+        &[
+            (0x1000, 0x1000, 0, 0),
+            (0x2000, 0x1000, 0, 9),
+            (0x3000, 0x2000, 0, 0),
+            (0x5000, 0x1000, 0, 1),
+            (0x7000, 0x1000, 0, 0),
+        ],
+    );
+    c.table(&TAKEN, &[(0x2800, 0x10, 0, 0)]);
+}
+
+/// Pieces of a page in any order make a page.
+fn report_in_two_orders(desk: &mut Desk) {
+    let pieces = [(0x1000, 0x801, 1), (0x1800, 0x7FF, 1), (0x1FFF, 1, 1)];
+    let mut c = Case::new(desk);
+    c.intake(&pieces, 0);
+    c.table(&MEMORY, &[(0x1000, 0x1000, 0, 0)]);
+    let end = c.block.clone();
+    let mut c = Case::new(desk);
+    c.intake(&[pieces[2], pieces[0], pieces[1]], 0);
+    c.expect("block", c.block.clone(), end);
 }

@@ -1,9 +1,9 @@
 //! Makes each call twice, on the archive and on the model, from equal bytes,
 //! and stops the program at the first difference.
 
-use crate::blocks::read_recs;
+use crate::blocks::{get_u32, get_u64, read_recs};
 use crate::call::{Call, Command};
-use model::layout::{MEMORY, TAKEN};
+use model::layout::{MEMORY, REPORT_ENTRY_LEN, TAKEN};
 use std::sync::atomic::{AtomicU64, Ordering};
 use std::sync::Mutex;
 use std::time::Duration;
@@ -12,9 +12,11 @@ use std::time::Duration;
 const GUARD: usize = 64;
 /// A call that takes longer than this counts as one that never ends.
 const PATIENCE: u64 = 10;
+/// The numbers that may be answered are below this.
+const NUMBERS: usize = 11;
 
 /// What is needed to find a call again.
-#[derive(Clone, Copy)]
+#[derive(Clone)]
 struct Where {
     seed: u64,
     part: &'static str,
@@ -54,7 +56,7 @@ extern "C" {
 
 extern "C" fn stopped(number: i32) {
     if let Ok(now) = NOW.try_lock() {
-        if let Some(place) = *now {
+        if let Some(place) = &*now {
             eprintln!("DIFFERENCE: signal {number} instead of an answer");
             eprintln!("{}", place.text());
         }
@@ -73,12 +75,13 @@ pub fn watch() {
         loop {
             std::thread::sleep(Duration::from_secs(PATIENCE));
             let done = DONE.load(Ordering::Relaxed);
-            let now = *NOW.lock().expect("never poisoned");
-            if let (true, Some(place)) = (done == last, now) {
+            let now = NOW.lock().expect("never poisoned");
+            if let (true, Some(place)) = (done == last, &*now) {
                 eprintln!("DIFFERENCE: no answer within {PATIENCE} seconds");
                 eprintln!("{}", place.text());
                 unsafe { _exit(1) };
             }
+            drop(now);
             last = done;
         }
     });
@@ -140,9 +143,10 @@ pub struct Desk {
     /// Take what the archive does for granted, so that only the checks on whole
     /// lists and cases are left. Used to show that these can fail too.
     pub without_model: bool,
-    pairs: [[u64; 9]; 12],
+    pairs: [[u64; NUMBERS]; Command::ALL.len()],
     block_room: Lent,
     slip_room: Lent,
+    report_room: Lent,
 }
 
 impl Desk {
@@ -153,9 +157,10 @@ impl Desk {
             turn: 0,
             calls: 0,
             without_model: false,
-            pairs: [[0; 9]; 12],
+            pairs: [[0; NUMBERS]; Command::ALL.len()],
             block_room: Lent::new(),
             slip_room: Lent::new(),
+            report_room: Lent::new(),
         }
     }
 
@@ -173,15 +178,21 @@ impl Desk {
             part: self.part,
             turn: self.turn,
             number: self.calls,
-            call: *call,
+            call: call.clone(),
             block_len: block.len(),
             slip_len: slip.len(),
         };
         self.block_room.fill(block, self.calls);
         self.slip_room.fill(slip, self.calls.wrapping_mul(7) + 3);
+        self.report_room
+            .fill(call.report(), self.calls.wrapping_mul(5) + 1);
 
-        *NOW.lock().expect("never poisoned") = Some(place);
-        let got = call.on_archive(self.block_room.bytes(), self.slip_room.bytes());
+        *NOW.lock().expect("never poisoned") = Some(place.clone());
+        let got = call.on_archive(
+            self.block_room.bytes(),
+            self.slip_room.bytes(),
+            self.report_room.bytes(),
+        );
         *NOW.lock().expect("never poisoned") = None;
         DONE.store(self.calls, Ordering::Relaxed);
 
@@ -202,8 +213,14 @@ impl Desk {
             wrong += &format!("  number: {got} is not one that this command can give\n");
         }
         for (what, room, wanted, before) in [
-            ("block", &mut self.block_room, &*block, &before),
+            ("block", &mut self.block_room, &*block, &before[..]),
             ("slip", &mut self.slip_room, &*slip, &slip_before),
+            (
+                "report",
+                &mut self.report_room,
+                call.report(),
+                call.report(),
+            ),
         ] {
             if let Some(at) = room.broken() {
                 wrong += &format!("  a byte outside the lent {what} was written, at {at}\n");
@@ -225,6 +242,7 @@ impl Desk {
             eprintln!("{}", place.text());
             eprint!("{wrong}");
             eprintln!("{}", describe(&before));
+            eprint!("{}", entries(call.report()));
             std::process::exit(1);
         }
         self.pairs[command as usize][got as usize] += 1;
@@ -281,6 +299,25 @@ fn describe(block: &[u8]) -> String {
         if list.len() > 6 {
             text += "\n    ...";
         }
+    }
+    text
+}
+
+/// The first entries of a report, a line each.
+fn entries(report: &[u8]) -> String {
+    let entries = report.chunks_exact(REPORT_ENTRY_LEN);
+    let more = entries.len().saturating_sub(12);
+    let mut text = String::new();
+    for entry in entries.take(12) {
+        text += &format!(
+            "  entry base {:#x} length {:#x} kind {:#x}\n",
+            get_u64(entry, 0),
+            get_u64(entry, 8),
+            get_u32(entry, 16)
+        );
+    }
+    if more > 0 {
+        text += &format!("  and {more} more\n");
     }
     text
 }

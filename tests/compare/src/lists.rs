@@ -122,9 +122,11 @@ fn predicted_table(start: &[Rec], done: &[Call]) -> Vec<Rec> {
 
 /// The one good block that the section on lists says a list ends in; `None` if
 /// no block could hold it, so that not all of these can have been done.
-fn predicted(start: &[u8], done: &[Call]) -> Option<Vec<u8>> {
-    let (on_taken, on_memory): (Vec<Call>, Vec<Call>) =
-        done.iter().partition(|call| call.command().on_taken());
+pub fn predicted(start: &[u8], done: &[Call]) -> Option<Vec<u8>> {
+    let (on_taken, on_memory): (Vec<Call>, Vec<Call>) = done
+        .iter()
+        .cloned()
+        .partition(|call| call.command().on_taken());
     let draft = Draft {
         memory: predicted_table(&read_recs(start, &MEMORY), &on_memory),
         taken: predicted_table(&read_recs(start, &TAKEN), &on_taken),
@@ -143,7 +145,7 @@ fn predicted(start: &[u8], done: &[Call]) -> Option<Vec<u8>> {
 fn counted(calls: &[Call]) -> HashMap<Call, usize> {
     let mut counts = HashMap::new();
     for call in calls {
-        *counts.entry(*call).or_insert(0) += 1;
+        *counts.entry(call.clone()).or_insert(0) += 1;
     }
     counts
 }
@@ -155,7 +157,7 @@ fn run_list(desk: &mut Desk, start: &[u8], list: &[Call]) -> (Vec<u8>, Vec<Call>
     let mut refused = Vec::new();
     for call in list {
         match desk.call(call, &mut block, &mut []) {
-            0 => done.push(*call),
+            0 => done.push(call.clone()),
             number => refused.push(number),
         }
     }
@@ -232,7 +234,7 @@ fn some_list(rng: &mut Rng, near: &Near, there: &[Command]) -> Vec<Call> {
     regions(rng, near, true, &mut list);
     // The same call again.
     if rng.one_in(4) && !list.is_empty() {
-        let call = rng.pick(&list);
+        let call = list[rng.index(list.len())].clone();
         list.push(call);
     }
     for _ in 0..rng.index(3) {

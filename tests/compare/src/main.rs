@@ -1,5 +1,5 @@
 //! Calls the archive and the model on equal bytes and compares the number and
-//! every byte of block and slip. See README.md.
+//! every byte of block, slip and report. See README.md.
 
 mod archive;
 mod blocks;
@@ -8,6 +8,8 @@ mod cases;
 mod desk;
 mod lists;
 mod numbers;
+mod orders;
+mod reports;
 mod rng;
 
 use blocks::Damage;
@@ -20,8 +22,11 @@ use rng::Rng;
 /// One pair of orders is asked for in this many calls of the lists' part.
 const CALLS_PER_PAIR: u64 = 50;
 
-const PARTS: [&str; 7] = [
-    "cases", "lists", "lengths", "damage", "faults", "fills", "walks",
+/// One pair of orders of a report is asked for in this many calls of their part.
+const CALLS_PER_REPORT_PAIR: u64 = 5;
+
+const PARTS: [&str; 8] = [
+    "cases", "lists", "orders", "lengths", "damage", "faults", "fills", "walks",
 ];
 
 struct Options {
@@ -90,15 +95,16 @@ fn main() {
         .map(Command::name)
         .collect();
     println!(
-        "compare: seed {}, {} calls asked for, {} of 12 functions in the archive",
+        "compare: seed {}, {} calls asked for, {} of {} functions in the archive",
         options.seed,
         options.calls,
-        there.len()
+        there.len(),
+        Command::ALL.len()
     );
     if !missing.is_empty() {
         println!("compare: not in the archive: {}", missing.join(" "));
         if options.all {
-            stop("all 12 functions were asked for");
+            stop("all functions were asked for");
         }
     }
     desk::watch();
@@ -113,9 +119,13 @@ fn main() {
         match part {
             "cases" => {
                 let cases = cases::run(desk);
-                println!("cases: all {cases} of document 01, {} calls", desk.calls);
+                println!(
+                    "cases: all {cases} of document 01 and those of request E1, {} calls",
+                    desk.calls
+                );
             }
             "lists" => lists(desk, options.share(18)),
+            "orders" => orders(desk, options.share(4)),
             "lengths" => lengths(desk, &there, options.share(4)),
             "damage" => damage(desk, &there, options.share(14)),
             "faults" => faults(desk, &there, options.share(8)),
@@ -140,7 +150,7 @@ fn main() {
     println!("compare: {} calls, all equal", desk.calls);
 }
 
-/// Every number that document 01 allows a function was given by it.
+/// Every number that the rules allow a function was given by it.
 fn numbers_reached(desk: &Desk) {
     let pairs = desk.pairs();
     let never: Vec<String> = pairs
@@ -215,6 +225,44 @@ fn lists(desk: &mut Desk, calls: u64) {
         if count < floor {
             stop(&format!(
                 "only {count} {what} were compared, at least {floor} asked for"
+            ));
+        }
+    }
+}
+
+/// Reports in more than one order.
+fn orders(desk: &mut Desk, calls: u64) {
+    if !Command::Intake.is_there() {
+        println!("orders: no intake in the archive");
+        return;
+    }
+    let before = desk.calls;
+    let tally = orders::run(desk, before + calls);
+    println!(
+        "orders: {} calls, {} reports, {} intakes as predicted, {} pairs of orders equal \
+         ({} where other orders were refused), {} reports done in some orders and refused \
+         in others, {} refused in all",
+        desk.calls - before,
+        tally.reports,
+        tally.predicted,
+        tally.pairs,
+        tally.pairs_beside_refused,
+        tally.both,
+        tally.refused,
+    );
+    let floor = calls / CALLS_PER_REPORT_PAIR;
+    for (what, count, floor) in [
+        ("pairs of orders", tally.pairs, floor),
+        (
+            "pairs beside refused orders",
+            tally.pairs_beside_refused,
+            floor / 20,
+        ),
+        ("reports refused in all orders", tally.refused, floor / 20),
+    ] {
+        if count < floor {
+            stop(&format!(
+                "only {count} {what} were met, at least {floor} asked for"
             ));
         }
     }
@@ -396,10 +444,12 @@ fn walks(desk: &mut Desk, calls: u64) {
             let mut slip = slip(rng, 2);
             let mut next = block.clone();
             desk.call(&call, &mut next, &mut slip);
-            // Fresh and coarse trims would end most walks: try them on a copy.
+            // Fresh, coarse trims and those of intakes would end most walks: try
+            // them on a copy.
             let keep = match call {
                 call::Call::Fresh => rng.one_in(20),
                 call::Call::Trim { alignment } => alignment <= 4096 || rng.one_in(8),
+                call::Call::Intake(_) => rng.one_in(3),
                 call::Call::Range { size, .. } => size < 1 << 62 || rng.one_in(4),
                 _ => true,
             };

@@ -2,6 +2,7 @@
 
 use crate::blocks::read_recs;
 use crate::call::{Call, Command};
+use crate::reports;
 use crate::rng::Rng;
 use model::layout::*;
 use model::{Board, Run, Wish};
@@ -240,6 +241,7 @@ impl Near {
             },
             Command::Find => Call::Find(self.wish(rng, faults)),
             Command::Allocate => Call::Allocate(self.wish(rng, faults)),
+            Command::Intake => Call::Intake(reports::some(rng, self, faults).into()),
             _ => {
                 let (base, size) = self.range(rng);
                 Call::Range {

@@ -1,4 +1,5 @@
-//! Every number of document 01 that a later request may change, in one place.
+//! Every number of document 01 and the requests that a later one may change, in
+//! one place.
 
 /// One past the last address there is. All sums are done in `u128`.
 pub const SPACE: u128 = 1 << 64;
@@ -56,6 +57,15 @@ pub const ANY_NODE: u32 = u32::MAX;
 /// No search begins below this address.
 pub const LOWEST_START: u128 = 4096;
 
+/// An E820 report: entries of u64 base, u64 length, u32 kind, little-endian.
+pub const REPORT_ENTRY_LEN: usize = 20;
+/// The most entries of a report.
+pub const REPORT_ENTRIES: usize = 128;
+/// The kind of entry that is added; all other numbers are passed over.
+pub const USABLE: u32 = 1;
+/// Memory is trimmed by this at the end of an intake.
+pub const INTAKE_STEP: u64 = 4096;
+
 /// The numbers the boot code gets back.
 pub mod number {
     pub const DONE: u32 = 0;
@@ -67,4 +77,5 @@ pub mod number {
     pub const TABLE_FULL: u32 = 6;
     pub const BAD_DIRECTION: u32 = 7;
     pub const BAD_SLIP: u32 = 8;
+    pub const BAD_REPORT: u32 = 10;
 }

@@ -1,5 +1,6 @@
-//! A second program for the memory tables of document 01, written from that
-//! page alone, to be compared with the library call by call.
+//! A second program for the memory tables of document 01 and the E820 intake of
+//! request E1, written from those pages alone, to be compared with the library
+//! call by call.
 //!
 //! It shares no idea with a program that walks tables of records: a table is a
 //! map from boundary points to states, a search looks at whole free runs and
@@ -14,7 +15,7 @@ mod line;
 pub use board::{covered, Board, Direction, Run, Tag};
 pub use line::Line;
 
-use board::narrow;
+use board::{long, narrow, word};
 use layout::number::*;
 use layout::*;
 
@@ -47,8 +48,7 @@ pub fn set(block: &mut [u8], limit: u64, direction: u32) -> u32 {
 pub fn add(block: &mut [u8], base: u64, size: u64, flags: u32, node: u32) -> u32 {
     let after = good(block).and_then(|mut board| {
         let tag = Tag::legal(flags, node).ok_or(BAD_TAG)?;
-        let (lo, hi) = covered(base, size);
-        board.memory.paint(lo, hi, |old| old.or(Some(tag)));
+        put_in(&mut board, base, size, tag);
         Ok(board)
     });
     settle(block, after)
@@ -86,14 +86,23 @@ pub fn free(block: &mut [u8], base: u64, size: u64) -> u32 {
 
 pub fn trim(block: &mut [u8], alignment: u64) -> u32 {
     let after = good(block).and_then(|mut board| {
-        let step = step(alignment)?;
-        let mut trimmed = Line::all(None);
-        for (lo, hi, tag) in board.memory.stretches() {
-            if tag.is_some() {
-                trimmed.paint(lo.div_ceil(step) * step, hi / step * step, |_| tag);
+        whole_steps(&mut board, step(alignment)?);
+        Ok(board)
+    });
+    settle(block, after)
+}
+
+/// Adds each usable entry of an E820 report in turn, then trims memory.
+pub fn intake_e820(block: &mut [u8], report: &[u8]) -> u32 {
+    let after = good(block).and_then(|mut board| {
+        for (base, size, kind) in entries(report)? {
+            if kind == USABLE {
+                put_in(&mut board, base, size, PLAIN);
+                // 6 speaks of each step, before any trimming.
+                board.write()?;
             }
         }
-        board.memory = trimmed;
+        whole_steps(&mut board, step(INTAKE_STEP)?);
         Ok(board)
     });
     settle(block, after)
@@ -189,6 +198,38 @@ fn step(alignment: u64) -> Result<u128, u32> {
     } else {
         Err(BAD_ALIGNMENT)
     }
+}
+
+/// The tag of what an intake adds.
+const PLAIN: Tag = Tag {
+    no_map: false,
+    node: 0,
+};
+
+/// Gives the tag to each address of the range not yet in memory.
+fn put_in(board: &mut Board, base: u64, size: u64, tag: Tag) {
+    let (lo, hi) = covered(base, size);
+    board.memory.paint(lo, hi, |old| old.or(Some(tag)));
+}
+
+/// Rounds each stretch of memory inwards to multiples of the step.
+fn whole_steps(board: &mut Board, step: u128) {
+    let mut trimmed = Line::all(None);
+    for (lo, hi, tag) in board.memory.stretches() {
+        if tag.is_some() {
+            trimmed.paint(lo.div_ceil(step) * step, hi / step * step, |_| tag);
+        }
+    }
+    board.memory = trimmed;
+}
+
+/// The entries of a report as (base, length, kind), or the refusal.
+fn entries(report: &[u8]) -> Result<impl Iterator<Item = (u64, u64, u32)> + '_, u32> {
+    let entries = report.chunks_exact(REPORT_ENTRY_LEN);
+    if !entries.remainder().is_empty() || entries.len() > REPORT_ENTRIES {
+        return Err(BAD_REPORT);
+    }
+    Ok(entries.map(|entry| (long(entry, 0), long(entry, 8), word(entry, 16))))
 }
 
 fn change_memory(

@@ -3,7 +3,8 @@
 //! A toy is a window of 420 addresses somewhere in the 64-bit space, each with
 //! its own state. Every command is done address by address, eligibility is
 //! tried address by address straight from the definition, and the block is put
-//! together here with code of its own.
+//! together here with code of its own. For intakes a place of the window is a
+//! quarter of a page, so that there are pages to trim.
 
 use model::Wish;
 
@@ -36,6 +37,8 @@ type Tag = (u32, u32);
 #[derive(Clone)]
 struct Toy {
     origin: u128,
+    /// How many addresses a place stands for.
+    unit: u128,
     memory: Vec<Option<Tag>>,
     taken: Vec<bool>,
     limit: u64,
@@ -46,6 +49,7 @@ impl Toy {
     fn new(origin: u128, width: usize) -> Toy {
         Toy {
             origin,
+            unit: 1,
             memory: vec![None; width],
             taken: vec![false; width],
             limit: u64::MAX,
@@ -54,7 +58,7 @@ impl Toy {
     }
 
     fn address(&self, i: usize) -> u128 {
-        self.origin + i as u128
+        self.origin + i as u128 * self.unit
     }
 
     /// The places of the window that a table range covers.
@@ -102,7 +106,7 @@ impl Toy {
             let mut total = 0u64;
             let mut body: Vec<u8> = Vec::new();
             for (first, past, (flags, node)) in groups {
-                let size = (past - first) as u64;
+                let size = ((past - first) as u128 * self.unit) as u64;
                 total += size;
                 body.extend((self.address(first) as u64).to_le_bytes());
                 body.extend(size.to_le_bytes());
@@ -583,4 +587,124 @@ fn every_small_search() {
         }
     }
     assert_eq!(searches, 7usize.pow(5) * 60);
+}
+
+/// The places of a toy for intakes.
+const WIDE: usize = 1400;
+
+/// A toy for intakes: several fills, half of them of the tag that an intake
+/// gives, and room above the last record.
+fn intake_toy(rng: &mut Rng, origin: u128) -> Toy {
+    let mut toy = Toy::new(origin, WIDE);
+    toy.unit = 1024;
+    toy.direction = rng.below(2) as u32;
+    let count = match rng.below(4) {
+        0 => rng.below(4),
+        1 => 60 + rng.below(10),
+        _ => 128 - rng.below(2),
+    };
+    let plain = rng.one_in(2);
+    let mut at = 0;
+    for _ in 0..count {
+        let lo = at + 1 + rng.below(4) as usize;
+        at = lo + 1 + rng.below(6) as usize;
+        let node = if plain { 0 } else { 1 + rng.below(2) as u32 };
+        toy.memory[lo..at].fill(Some((0, node)));
+    }
+    let taken = rng.below(5);
+    for (lo, hi) in teeth(rng, taken, 1) {
+        toy.taken[lo..hi].fill(true);
+    }
+    toy
+}
+
+/// Up to six entries of whole places.
+fn some_report(rng: &mut Rng, toy: &Toy) -> Vec<(u64, u64, u32)> {
+    (0..rng.below(7))
+        .map(|_| {
+            let first = match rng.below(3) {
+                0 => WIDE as u64 - 300 + rng.below(300),
+                _ => rng.below(WIDE as u64),
+            };
+            let most = WIDE as u64 - first;
+            let places = match rng.below(8) {
+                0 => rng.below(most + 1),
+                1 => rng.below(2),
+                _ => rng.below(most.min(20) + 1),
+            };
+            let kind = match rng.below(6) {
+                0 => rng.below(9) as u32,
+                _ => 1,
+            };
+            let unit = toy.unit as u64;
+            (toy.origin as u64 + first * unit, places * unit, kind)
+        })
+        .collect()
+}
+
+/// An intake place by place, or 6 at the first entry that does not fit.
+fn intake(toy: &Toy, entries: &[(u64, u64, u32)]) -> Result<Toy, u32> {
+    let mut next = toy.clone();
+    for &(base, size, kind) in entries {
+        if kind == 1 {
+            for i in next.places(base, size) {
+                next.memory[i] = next.memory[i].or(Some((0, 0)));
+            }
+            if next.block().is_none() {
+                return Err(6);
+            }
+        }
+    }
+    next.trim(4096);
+    Ok(next)
+}
+
+/// Random intakes in up to three orders.
+#[test]
+fn random_intakes_place_by_place() {
+    let (mut done, mut refused, mut split) = (0, 0, 0);
+    for seed in 0..4000 {
+        let mut rng = Rng(seed);
+        let origin = [0, 4096, 1 << 40, LAST - 4095 - 8192 * 1024][seed as usize % 4];
+        let toy = intake_toy(&mut rng, origin);
+        let block = toy.block().expect("at most 128 records");
+        let mut entries = some_report(&mut rng, &toy);
+        let mut ends = Vec::new();
+        for order in 0..3 {
+            let mut bytes = Vec::new();
+            for (base, size, kind) in &entries {
+                bytes.extend(base.to_le_bytes());
+                bytes.extend(size.to_le_bytes());
+                bytes.extend(kind.to_le_bytes());
+            }
+            let mut said = block.clone();
+            let number = model::intake_e820(&mut said, &bytes);
+            match intake(&toy, &entries) {
+                Ok(next) => {
+                    assert_eq!(number, 0, "seed {seed} order {order}");
+                    assert!(said == next.block().unwrap(), "seed {seed} order {order}");
+                    ends.push(said);
+                    done += 1;
+                }
+                Err(wanted) => {
+                    assert_eq!(number, wanted, "seed {seed} order {order}");
+                    assert!(said == block, "seed {seed} order {order}");
+                    refused += 1;
+                }
+            }
+            for i in (1..entries.len()).rev() {
+                entries.swap(i, rng.below(i as u64 + 1) as usize);
+            }
+        }
+        if ends.len() == 1 || ends.len() == 2 {
+            split += 1;
+        }
+        assert!(ends.windows(2).all(|two| two[0] == two[1]), "seed {seed}");
+    }
+    assert!(done >= 1000, "only {done} done");
+    assert!(refused >= 1000, "only {refused} refused");
+    assert!(
+        split >= 100,
+        "only {split} reports refused in one order alone"
+    );
 }

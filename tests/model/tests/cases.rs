@@ -1,5 +1,6 @@
 //! Document 01's own examples: the printed block, the twelve cases, the table
-//! of numbers on both sides, and the slips already paid for.
+//! of numbers on both sides, and the slips already paid for. Then the E820
+//! intake of request E1, each rule on both sides of its edge.
 
 use model::layout::*;
 use model::Wish;
@@ -299,7 +300,7 @@ fn number_1_fresh_asks_only_for_the_length() {
 
 /// Every command on one block, with numbers that would be done on a good one.
 fn all_commands(block: &[u8]) -> Vec<u32> {
-    let changes: [fn(&mut [u8]) -> u32; 8] = [
+    let changes: [fn(&mut [u8]) -> u32; 9] = [
         |b| model::set(b, 5, 1),
         |b| model::add(b, 0x30000, 1, 0, 0),
         |b| model::remove(b, 0x10000, 1),
@@ -308,6 +309,7 @@ fn all_commands(block: &[u8]) -> Vec<u32> {
         |b| model::reserve(b, 0x10000, 1),
         |b| model::free(b, 0x10000, 1),
         |b| model::trim(b, 4096),
+        |b| model::intake_e820(b, &report(&[(0x30000, 1, 1)])),
     ];
     let mut numbers = Vec::new();
     for change in changes {
@@ -331,10 +333,10 @@ fn number_1_every_way_a_block_can_be_bad() {
     assert_eq!(model::add(&mut good, 0x20000, 0x1000, 4, 63), 0);
     assert_eq!(model::add(&mut good, 0x40000, 0x1000, 0, 0), 0);
     assert_eq!(model::reserve(&mut good, 0x50000, 0x10), 0);
-    assert_eq!(all_commands(&good), [0; 11]);
+    assert_eq!(all_commands(&good), [0; 12]);
 
     let bad = |what: &str, block: &[u8]| {
-        assert_eq!(all_commands(block), [1; 11], "{what}");
+        assert_eq!(all_commands(block), [1; 12], "{what}");
     };
     let put = |at: usize, bytes: &[u8]| {
         let mut block = good.clone();
@@ -742,4 +744,379 @@ fn no_map_and_taken_are_never_offered() {
     assert_eq!(next_free(&block, 0, ANY_NODE), Ok((0x1FFFF, 0x20000)));
     assert_eq!(model::free(&mut block, 0x18000, 0x7FFF), 0);
     assert_eq!(find_address(&block, 0x8000, 1), Ok(0x18000));
+}
+
+// The E820 intake.
+
+const PAGE: u64 = 4096;
+const LAST: u64 = u64::MAX;
+
+fn report(entries: &[(u64, u64, u32)]) -> Vec<u8> {
+    let mut bytes = Vec::new();
+    for (base, length, kind) in entries {
+        bytes.extend(base.to_le_bytes());
+        bytes.extend(length.to_le_bytes());
+        bytes.extend(kind.to_le_bytes());
+    }
+    bytes
+}
+
+/// Takes a report in; a refusal must leave the block as it was.
+fn intake(block: &mut [u8], bytes: &[u8]) -> u32 {
+    let before = block.to_vec();
+    let number = model::intake_e820(block, bytes);
+    if number != 0 {
+        assert_eq!(block, before);
+    }
+    number
+}
+
+fn intake_of(block: &mut [u8], entries: &[(u64, u64, u32)]) -> u32 {
+    intake(block, &report(entries))
+}
+
+/// The memory records after an intake on a fresh block.
+fn after_intake(entries: &[(u64, u64, u32)]) -> Vec<(u64, u64, u32, u32)> {
+    let mut block = fresh();
+    assert_eq!(intake_of(&mut block, entries), 0);
+    assert!(records(&block, &TAKEN).is_empty());
+    records(&block, &MEMORY)
+}
+
+/// `count` usable pages with one page between, from `base`.
+fn pages(base: u64, count: u64) -> Vec<(u64, u64, u32)> {
+    (0..count).map(|i| (base + i * 2 * PAGE, PAGE, 1)).collect()
+}
+
+#[test]
+fn intake_lengths_of_request_e1() {
+    assert_eq!(REPORT_ENTRY_LEN, 20);
+    assert_eq!(REPORT_ENTRIES, 128);
+    assert_eq!(INTAKE_STEP, 4096);
+}
+
+#[test]
+fn intake_of_printed_bytes() {
+    let bytes = hex("0010000000000000 0010000000000000 01000000
+         0030000000000000 0010000000000000 02000000");
+    let mut block = fresh();
+    assert_eq!(intake(&mut block, &bytes), 0);
+    assert_eq!(block, memory(&[(0x1000, 0x2000)]));
+}
+
+#[test]
+fn intake_10_length_not_whole_entries() {
+    let bytes = report(&pages(0x10000, 3));
+    for len in 0..=60 {
+        let number = if len % 20 == 0 { 0 } else { 10 };
+        let mut block = fresh();
+        assert_eq!(intake(&mut block, &bytes[..len]), number, "{len} bytes");
+        assert_eq!(
+            records(&block, &MEMORY).len(),
+            if number == 0 { len / 20 } else { 0 }
+        );
+    }
+}
+
+#[test]
+fn intake_10_over_128_entries() {
+    assert_eq!(after_intake(&pages(0x10000, 128)).len(), 128);
+    let mut block = fresh();
+    assert_eq!(intake_of(&mut block, &pages(0x10000, 129)), 10);
+    // Entries that are passed over count too.
+    let passed = |count| vec![(0x10000, PAGE, 2); count];
+    assert_eq!(intake_of(&mut block, &passed(128)), 0);
+    assert_eq!(intake_of(&mut block, &passed(129)), 10);
+    assert_eq!(intake(&mut block, &vec![0; 128 * 20 + 1]), 10);
+    assert_eq!(intake(&mut block, &vec![0; 1 << 20]), 10);
+    assert_eq!(block, fresh());
+}
+
+#[test]
+fn intake_first_number_wins() {
+    // 1 before 10 before 6.
+    let full = comb();
+    let mut bad = full.clone();
+    bad[0] ^= 1;
+    let apart = pages(0x200_0000, 1);
+    let too_many = pages(0x200_0000, 129);
+    let ragged = [report(&apart), vec![0]].concat();
+    for bytes in [report(&too_many), ragged, report(&apart), Vec::new()] {
+        assert_eq!(intake(&mut bad, &bytes), 1);
+        assert_eq!(intake(&mut full[..6223].to_vec(), &bytes), 1);
+        assert_eq!(intake(&mut [], &bytes), 1);
+    }
+    let mut block = full.clone();
+    assert_eq!(intake_of(&mut block, &too_many), 10);
+    assert_eq!(intake(&mut block, &[report(&apart), vec![0]].concat()), 10);
+    assert_eq!(intake_of(&mut block, &apart), 6);
+    assert_eq!(block, full);
+}
+
+#[test]
+fn intake_6_midway_restores_every_byte() {
+    // Room for one record more, and memory that a trim would change.
+    let mut start = fresh();
+    for i in 0..127 {
+        assert_eq!(model::add(&mut start, i * 0x2000 + 1, 0x1000, 0, 1), 0);
+    }
+    let mut block = start.clone();
+    let two = pages(0x200_0000, 2);
+    assert_eq!(intake_of(&mut block, &two), 6);
+    assert_eq!(block, start);
+    assert_eq!(intake_of(&mut block, &two[..1]), 0);
+    assert_eq!(records(&block, &MEMORY), [(0x200_0000, PAGE, 0, 0)]);
+    // What comes after the entry at fault does not matter.
+    let mut block = start.clone();
+    let [first, second] = two[..] else { panic!() };
+    let between = (first.0, 3 * PAGE, 1);
+    assert_eq!(intake_of(&mut block, &[first, second, between]), 6);
+    assert_eq!(intake_of(&mut block, &[first, between, second]), 0);
+}
+
+#[test]
+fn intake_6_although_the_trimmed_list_would_fit() {
+    let full = comb();
+    let mut block = full.clone();
+    // One byte, which the trim would take away again.
+    assert_eq!(intake_of(&mut block, &[(0x200_0001, 1, 1)]), 6);
+    // All that is there would go too.
+    let mut crumbs = fresh();
+    for i in 0..128 {
+        assert_eq!(model::add(&mut crumbs, i * 2, 1, 0, 0), 0);
+    }
+    assert_eq!(intake_of(&mut crumbs, &[(0x1000, 1, 1)]), 6);
+    assert_eq!(intake_of(&mut crumbs, &[]), 0);
+    assert_eq!(crumbs, fresh());
+    // Two orders, of which one is refused.
+    let gap = (0x1000, PAGE, 1);
+    let apart = (0x200_0000, PAGE, 1);
+    assert_eq!(intake_of(&mut block, &[apart, gap]), 6);
+    assert_eq!(block, full);
+    assert_eq!(intake_of(&mut block, &[gap, apart]), 0);
+    assert_eq!(records(&block, &MEMORY).len(), 128);
+}
+
+#[test]
+fn intake_6_only_by_entries_that_are_added() {
+    let mut block = comb();
+    let full = block.clone();
+    for kind in [0, 2, 3, 7, 8, u32::MAX] {
+        assert_eq!(intake_of(&mut block, &[(0x200_0000, PAGE, kind)]), 0);
+        assert_eq!(block, full);
+    }
+    // Done already, empty, or cut to nothing.
+    for entry in [(0, PAGE, 1), (0x200_0000, 0, 1), (LAST, PAGE, 1)] {
+        assert_eq!(intake_of(&mut block, &[entry]), 0);
+        assert_eq!(block, full);
+    }
+}
+
+#[test]
+fn intake_one_entry_can_need_many_records() {
+    // 64 records of another tag: filling their gaps needs 63 more.
+    let mut start = fresh();
+    for i in 0..65 {
+        assert_eq!(model::add(&mut start, i * 2 * PAGE, PAGE, 0, 1), 0);
+    }
+    let mut block = start.clone();
+    assert_eq!(intake_of(&mut block, &[(0, 129 * PAGE, 1)]), 6);
+    assert_eq!(intake_of(&mut block, &[(PAGE, 128 * PAGE, 1)]), 6);
+    assert_eq!(intake_of(&mut block, &[(2 * PAGE, 127 * PAGE, 1)]), 0);
+    assert_eq!(records(&block, &MEMORY).len(), 128);
+}
+
+#[test]
+fn intake_kinds() {
+    let kinds = [0, 1, 2, 3, 4, 5, 6, 7, 8, 9, 257, 1 << 24, LAST as u32];
+    let entries: Vec<_> = (1..)
+        .zip(kinds)
+        .map(|(i, kind)| (i * 0x10000, PAGE, kind))
+        .collect();
+    assert_eq!(after_intake(&entries), [(0x20000, PAGE, 0, 0)]);
+    for entry in entries {
+        assert_eq!(after_intake(&[entry]).len(), usize::from(entry.2 == 1));
+    }
+}
+
+#[test]
+fn intake_overlapping_and_touching_entries() {
+    for (second, wanted) in [
+        ((0x14000, 0x4000), vec![(0x10000, 0x8000)]),
+        ((0x13000, 0x4000), vec![(0x10000, 0x7000)]),
+        ((0x11000, 0x1000), vec![(0x10000, 0x4000)]),
+        ((0x10000, 0x4000), vec![(0x10000, 0x4000)]),
+        ((0xF000, 0x6000), vec![(0xF000, 0x6000)]),
+        (
+            (0x15000, 0x1000),
+            vec![(0x10000, 0x4000), (0x15000, 0x1000)],
+        ),
+        // A byte between them is a page between them after the trim.
+        (
+            (0x14001, 0x1FFF),
+            vec![(0x10000, 0x4000), (0x15000, 0x1000)],
+        ),
+    ] {
+        let entries = [(0x10000, 0x4000, 1), (second.0, second.1, 1)];
+        let wanted: Vec<_> = wanted.into_iter().map(|(b, s)| (b, s, 0, 0)).collect();
+        assert_eq!(after_intake(&entries), wanted);
+        assert_eq!(after_intake(&[entries[1], entries[0]]), wanted);
+    }
+    // Entries of other kinds take nothing away.
+    let over = [(0x10000, 0x4000, 1), (0x11000, 0x1000, 2)];
+    assert_eq!(after_intake(&over), [(0x10000, 0x4000, 0, 0)]);
+}
+
+#[test]
+fn intake_pages_of_pieces() {
+    // The pieces of a page make it whole, trimmed only at the end.
+    let pieces = [(0x1000, 0x7FF, 1), (0x1801, 0x7FF, 1), (0x17FF, 2, 1)];
+    assert_eq!(after_intake(&pieces), [(0x1000, PAGE, 0, 0)]);
+    assert_eq!(after_intake(&pieces[..2]), []);
+    // Smaller than a page, a page off its place, and on both sides of it.
+    assert_eq!(after_intake(&[(0x1000, 0xFFF, 1)]), []);
+    assert_eq!(after_intake(&[(0x1001, 0x1FFE, 1)]), []);
+    assert_eq!(after_intake(&[(0x1001, 0x1FFF, 1)]), [(0x2000, PAGE, 0, 0)]);
+    assert_eq!(after_intake(&[(0xFFF, 0x1001, 1)]), [(0x1000, PAGE, 0, 0)]);
+}
+
+#[test]
+fn intake_at_the_top() {
+    let page = LAST - 4095;
+    // The last page lacks its last address: nothing of it is left.
+    assert_eq!(after_intake(&[(page, 0x2000, 1)]), []);
+    assert_eq!(after_intake(&[(page, PAGE, 1)]), []);
+    assert_eq!(after_intake(&[(page + 1, 0xFFE, 1)]), []);
+    assert_eq!(after_intake(&[(LAST, 1, 1)]), []);
+    assert_eq!(after_intake(&[(LAST, LAST, 1)]), []);
+    // The page before it stays.
+    let before = [(page - PAGE, PAGE, 0, 0)];
+    for length in [PAGE, PAGE + 1, 2 * PAGE - 1, 2 * PAGE, 3 * PAGE, LAST] {
+        assert_eq!(after_intake(&[(page - PAGE, length, 1)]), before);
+    }
+    assert_eq!(after_intake(&[(page - PAGE, PAGE - 1, 1)]), []);
+    assert_eq!(after_intake(&[(0, LAST, 1)]), [(0, page, 0, 0)]);
+    // An end past the top never comes round to 0.
+    assert_eq!(
+        after_intake(&[(0x1000, LAST, 1)]),
+        [(0x1000, page - 0x1000, 0, 0)]
+    );
+}
+
+#[test]
+fn intake_size_zero() {
+    assert_eq!(after_intake(&[(0x1000, 0, 1), (0, 0, 1), (LAST, 0, 1)]), []);
+    let split = [(0x1000, 0x1000, 1), (0x1800, 0, 1)];
+    assert_eq!(after_intake(&split), [(0x1000, PAGE, 0, 0)]);
+}
+
+#[test]
+fn intake_empty_report_only_trims() {
+    for entries in [vec![], vec![(0x1000, PAGE, 2)], vec![(0x1800, 0, 1)]] {
+        let mut block = fresh();
+        assert_eq!(model::add(&mut block, 0x1001, 0x2FFF, 4, 7), 0);
+        assert_eq!(model::add(&mut block, 0x8000, 0xFFF, 0, 0), 0);
+        assert_eq!(model::reserve(&mut block, 0x1234, 5), 0);
+        assert_eq!(model::set(&mut block, 99, BOTTOM_UP), 0);
+        let mut trimmed = block.clone();
+        assert_eq!(model::trim(&mut trimmed, PAGE), 0);
+        assert_eq!(intake_of(&mut block, &entries), 0);
+        assert_eq!(block, trimmed);
+        assert_eq!(records(&block, &MEMORY), [(0x2000, 0x2000, 4, 7)]);
+        assert_eq!(records(&block, &TAKEN), [(0x1234, 5, 0, 0)]);
+        assert_eq!(total(&block, &MEMORY), 0x2000);
+    }
+}
+
+#[test]
+fn intake_keeps_tags_and_the_rest_of_the_block() {
+    let mut block = fresh();
+    assert_eq!(model::add(&mut block, 0x2000, 0x1000, 4, 9), 0);
+    assert_eq!(model::add(&mut block, 0x5000, 0x1800, 0, 1), 0);
+    assert_eq!(model::reserve(&mut block, 0x2800, 0x10), 0);
+    assert_eq!(model::set(&mut block, 77, BOTTOM_UP), 0);
+    assert_eq!(intake_of(&mut block, &[(0x1000, 0x7000, 1)]), 0);
+    // The plain part beside the ragged record loses its half page as well.
+    assert_eq!(
+        records(&block, &MEMORY),
+        [
+            (0x1000, 0x1000, 0, 0),
+            (0x2000, 0x1000, 4, 9),
+            (0x3000, 0x2000, 0, 0),
+            (0x5000, 0x1000, 0, 1),
+            (0x7000, 0x1000, 0, 0),
+        ]
+    );
+    assert_eq!(total(&block, &MEMORY), 0x6000);
+    assert_eq!(records(&block, &TAKEN), [(0x2800, 0x10, 0, 0)]);
+    assert_eq!((long(&block, 40), word(&block, 48)), (77, BOTTOM_UP));
+}
+
+#[test]
+fn intake_is_its_adds_and_a_trim() {
+    let entries = [
+        (0x9FC00, 0x400, 2),
+        (0, 0x9FC00, 1),
+        (0x58000FFF, 0x20001, 1),
+        (0x100000, 0x1FE01000, 1),
+        (0x40000000, 0x10000000, 1),
+        (0x48000000, 0x10000000, 1),
+    ];
+    let mut by_calls = fresh();
+    for (base, size, kind) in entries {
+        if kind == 1 {
+            assert_eq!(model::add(&mut by_calls, base, size, 0, 0), 0);
+        }
+    }
+    assert_eq!(model::trim(&mut by_calls, PAGE), 0);
+    let mut block = fresh();
+    assert_eq!(intake_of(&mut block, &entries), 0);
+    assert_eq!(block, by_calls);
+}
+
+#[test]
+fn intake_in_every_order() {
+    // The third entry joins the first two; the fourth stands apart.
+    let entries = [
+        (0x1000, 0x1801, 1),
+        (0x5FFF, 0x1001, 1),
+        (0x2000, 0x4800, 1),
+        (0x20001, 0x1FFF, 1),
+        (0x3000, 0x1000, 2),
+    ];
+    let mut orders = vec![vec![]];
+    for entry in entries {
+        orders = orders
+            .iter()
+            .flat_map(|order: &Vec<_>| {
+                (0..=order.len()).map(move |at| {
+                    let mut longer = order.clone();
+                    longer.insert(at, entry);
+                    longer
+                })
+            })
+            .collect();
+    }
+    // With room for two records an order is refused when the third comes last
+    // of the first four: one order in four.
+    for (there, done) in [(0, 120), (100, 120), (125, 120), (126, 90), (127, 0)] {
+        let mut start = fresh();
+        for i in 0..there {
+            let base = 0x10_0800 + i * 0x10000;
+            assert_eq!(model::add(&mut start, base, 0x2800, 4, 3), 0);
+        }
+        let mut ends = Vec::new();
+        for order in &orders {
+            let mut block = start.clone();
+            if intake_of(&mut block, order) == 0 {
+                ends.push(block);
+            }
+        }
+        assert_eq!(ends.len(), done, "{there} records");
+        ends.dedup();
+        assert_eq!(ends.len(), usize::from(done > 0));
+        for end in ends {
+            assert_eq!(records(&end, &MEMORY).len() as u64, there + 2);
+        }
+    }
 }

@@ -12,6 +12,9 @@ const BLOCK_LEN: usize = 6224;
 const CAPACITY: usize = 128;
 const OFFSETS: [usize; 2] = [80, 3152];
 const ANY: u32 = u32::MAX;
+const ENTRY_LEN: usize = 20;
+const ENTRIES: usize = 128;
+const PAGE: u64 = 4096;
 
 fn mutant(k: u32) -> bool {
     static CHOSEN: OnceLock<u32> = OnceLock::new();
@@ -155,12 +158,10 @@ fn put_table(b: &mut [u8], table: usize, list: &[Rec], keep_total: bool) {
     }
 }
 
-/// Stores pieces in rising order as the shortest list, or answers 6.
-fn store(b: &mut [u8], table: usize, pieces: &[Rec]) -> u32 {
+/// The shortest list for pieces in rising order.
+fn shortest(pieces: &[Rec]) -> Vec<Rec> {
     let mut list: Vec<Rec> = Vec::with_capacity(pieces.len());
-    let mut unmerged = 0;
     for piece in pieces.iter().filter(|piece| piece.base < piece.end) {
-        unmerged += 1;
         match list.last_mut() {
             // mutant 6: merges whatever touches, without looking at the tags
             Some(last) if last.end == piece.base && (mutant(6) || last.same_tag(piece)) => {
@@ -169,6 +170,13 @@ fn store(b: &mut [u8], table: usize, pieces: &[Rec]) -> u32 {
             _ => list.push(*piece),
         }
     }
+    list
+}
+
+/// Stores pieces in rising order as the shortest list, or answers 6.
+fn store(b: &mut [u8], table: usize, pieces: &[Rec]) -> u32 {
+    let mut list = shortest(pieces);
+    let unmerged = pieces.iter().filter(|piece| piece.base < piece.end).count();
     // mutant 7: 6 is decided before merging
     let count = if mutant(7) { unmerged } else { list.len() };
     if count > CAPACITY {
@@ -254,6 +262,19 @@ fn round_up(x: u64, alignment: u64) -> Option<u64> {
         return Some(x.wrapping_add(mask) & !mask);
     }
     Some(x.checked_add(mask)? & !mask)
+}
+
+/// Each record's base rounded up and its end rounded down.
+fn trimmed(list: &[Rec], alignment: u64) -> Vec<Rec> {
+    let mut shorter = Vec::new();
+    for rec in list {
+        let end = rec.end & !(alignment - 1);
+        match round_up(rec.base, alignment) {
+            Some(base) if base < end => shorter.push(Rec { base, end, ..*rec }),
+            _ => {}
+        }
+    }
+    shorter
 }
 
 /// The gaps of the taken list inside one record.
@@ -569,16 +590,8 @@ pub unsafe extern "C" fn memblock_trim(block: *mut u8, len: usize, alignment: u6
     if !alignment.is_power_of_two() {
         return 3;
     }
-    let mut list = Vec::new();
-    for rec in &tables.memory {
-        let end = rec.end & !(alignment - 1);
-        match round_up(rec.base, alignment) {
-            Some(base) if base < end => list.push(Rec { base, end, ..*rec }),
-            _ => {}
-        }
-    }
     // mutant 26: trim keeps the old total
-    put_table(b, 0, &list, mutant(26));
+    put_table(b, 0, &trimmed(&tables.memory, alignment), mutant(26));
     0
 }
 
@@ -705,4 +718,132 @@ pub unsafe extern "C" fn memblock_allocate(
         tell(slip, Err(number));
     }
     number
+}
+
+fn report_is_bad(r: &[u8]) -> bool {
+    // mutant 36: 129 entries are taken in
+    // mutant 37: 128 entries are refused
+    let most = ENTRIES + usize::from(mutant(36)) - usize::from(mutant(37));
+    // mutant 38: a part of an entry at the end is passed over
+    let part = !r.len().is_multiple_of(ENTRY_LEN) && !mutant(38);
+    part || r.len() / ENTRY_LEN > most
+}
+
+/// Whether a kind number is added.
+fn is_added(kind: u32) -> bool {
+    // mutant 39: the kind is read from its low byte
+    let kind = if mutant(39) { kind & 0xFF } else { kind };
+    // mutant 40: kind 0 is added
+    // mutant 41: kind 2 is added
+    // mutant 42: kinds above 7 are added
+    kind == 1 || (mutant(40) && kind == 0) || (mutant(41) && kind == 2) || (mutant(42) && kind > 7)
+}
+
+/// The ranges of a report that are added, as base and end, in turn.
+fn added(r: &[u8]) -> Vec<(u64, u64)> {
+    let mut ranges = Vec::new();
+    for entry in r.chunks_exact(ENTRY_LEN) {
+        let (mut base, mut size) = (u64_at(entry, 0), u64_at(entry, 8));
+        // mutant 43: base and length change places
+        if mutant(43) {
+            std::mem::swap(&mut base, &mut size);
+        }
+        let mut end = cut(base, size);
+        // mutant 44: an end past the top comes round
+        if mutant(44) {
+            end = base.wrapping_add(size);
+        }
+        // mutant 45: each entry is cut to whole pages before it is added
+        if mutant(45) {
+            end &= !(PAGE - 1);
+            base = round_up(base, PAGE).unwrap_or(u64::MAX);
+        }
+        if is_added(u32_at(entry, 16)) {
+            ranges.push((base, end));
+        }
+    }
+    // mutant 46: the entries are taken in by rising base, not in turn
+    if mutant(46) {
+        ranges.sort();
+    }
+    ranges
+}
+
+/// # Safety
+/// As above.
+#[no_mangle]
+pub unsafe extern "C" fn memblock_intake_e820(
+    block: *mut u8,
+    len: usize,
+    report: *const u8,
+    report_len: usize,
+) -> u32 {
+    let b = lent_mut(block, len);
+    let r = lent(report, report_len);
+    // mutant 47: a bad report is seen before a bad block
+    if mutant(47) && report_is_bad(r) {
+        return 10;
+    }
+    let Some(tables) = parse(b) else { return 1 };
+    if report_is_bad(r) {
+        return 10;
+    }
+    let mut list = tables.memory.clone();
+    for (base, end) in added(r) {
+        // mutant 48: an entry of size 0 is refused
+        if mutant(48) && base == end {
+            return 6;
+        }
+        // mutant 49: an entry that is cut at the top is refused
+        if mutant(49) && end == u64::MAX {
+            return 6;
+        }
+        // mutant 50: entries are added with node 1
+        let node = u32::from(mutant(50));
+        let next = shortest(&fill(&list, base, end, 0, node));
+        // mutant 51: 6 is judged on the trimmed list
+        let count = match mutant(51) {
+            true => trimmed(&next, PAGE).len(),
+            false => next.len(),
+        };
+        if count > CAPACITY {
+            // mutant 52: the entry that does not fit is passed over
+            if mutant(52) {
+                continue;
+            }
+            // mutant 53: a refusal 6 leaves the entries before it added
+            if mutant(53) {
+                put_table(b, 0, &list, false);
+            }
+            return 6;
+        }
+        list = next;
+        // mutant 54: memory is trimmed after every entry
+        if mutant(54) {
+            list = trimmed(&list, PAGE);
+        }
+    }
+    // mutant 55: memory is not trimmed
+    // mutant 56: an empty report changes nothing
+    // mutant 57: what was there before is not trimmed
+    let stays = |rec: &Rec| {
+        mutant(55) || (mutant(56) && r.is_empty()) || (mutant(57) && tables.memory.contains(rec))
+    };
+    list = list
+        .iter()
+        .flat_map(|rec| match stays(rec) {
+            true => vec![*rec],
+            false => trimmed(&[*rec], PAGE),
+        })
+        .collect();
+    put_table(b, 0, &list, false);
+    // mutant 58: the first byte of the report is written
+    if mutant(58) && !r.is_empty() {
+        report.cast_mut().write(r[0] ^ 1);
+    }
+    // mutant 59: the byte past the report is written
+    if mutant(59) {
+        report.add(report_len).cast_mut().write(0);
+    }
+    0
 }

@@ -1,12 +1,13 @@
 //! Replays the boot program's transcript on the second program, line by line.
 //!
 //! `transcript NAME FILE`. For each call the line that the second program would
-//! have written, with its number, its block's sum and its slip, must be the line
-//! that stands there; the same for both tables at the end. Fails at the first
-//! difference, at a line it does not know, and when the transcript does not reach
-//! its end or leaves out a function, a number, or part of the memory map.
+//! have written, with its number, its block's sum and its slip or its report's
+//! sum, must be the line that stands there; the same for both tables at the end.
+//! Fails at the first difference, at a line it does not know, and when the
+//! transcript does not reach its end or leaves out a function, a number, or part
+//! of the memory map.
 
-use model::layout::{BLOCK_LEN, SLIP_LEN};
+use model::layout::{BLOCK_LEN, REPORT_ENTRIES, REPORT_ENTRY_LEN, SLIP_LEN, USABLE};
 use model::{Board, Wish};
 use std::collections::{BTreeMap, BTreeSet};
 use std::fmt::Write;
@@ -18,10 +19,10 @@ const GUARD: usize = 8;
 const FILL: u8 = 0xa5;
 /// The area below 1 MiB that a PC keeps for itself, base and size.
 const LEGACY: (u64, u64) = (0xa0000, 0x60000);
-/// The kind of a memory map entry that is added.
-const USABLE: u64 = 1;
+/// The report's bytes: room for one entry too many.
+const REPORT_LEN: usize = (REPORT_ENTRIES + 1) * REPORT_ENTRY_LEN + GUARD;
 
-const FUNCTIONS: [&str; 12] = [
+const FUNCTIONS: [&str; 13] = [
     "memblock_fresh",
     "memblock_set",
     "memblock_add",
@@ -34,11 +35,14 @@ const FUNCTIONS: [&str; 12] = [
     "memblock_next_free",
     "memblock_find",
     "memblock_allocate",
+    "memblock_intake_e820",
 ];
-const NUMBERS: u32 = 9;
+const NUMBERS: [u32; 10] = [0, 1, 2, 3, 4, 5, 6, 7, 8, 10];
 
 /// What is wrong with a line.
 type Wrong = String;
+/// Base, size and kind.
+type Entry = (u64, u64, u32);
 
 fn main() -> ExitCode {
     let arguments: Vec<String> = std::env::args().skip(1).collect();
@@ -102,13 +106,19 @@ struct Replay {
     calls: u64,
     met: BTreeSet<String>,
     numbers: BTreeSet<u32>,
-    /// Ranges that the memory map calls usable, and those added to `block`.
-    usable: Vec<(u64, u64)>,
+    /// The memory map; the entries of the report as it stands; those of each
+    /// report taken in, with its block; the ranges added to `mirror`, up to the
+    /// first comparison.
+    map: Vec<Entry>,
+    report: Vec<u8>,
+    entries: Vec<Entry>,
+    taken_in: Vec<(String, Vec<Entry>)>,
     added: Vec<(u64, u64)>,
     /// Ranges in use before the first call, and those reserved in `block`.
     held: Vec<(u64, u64)>,
     reserved: Vec<(u64, u64)>,
-    same: bool,
+    /// How often the two blocks were compared.
+    same: u32,
     tables: BTreeSet<String>,
     ended: bool,
 }
@@ -121,11 +131,14 @@ impl Replay {
             calls: 0,
             met: BTreeSet::new(),
             numbers: BTreeSet::new(),
-            usable: Vec::new(),
+            map: Vec::new(),
+            report: vec![0; REPORT_LEN],
+            entries: Vec::new(),
+            taken_in: Vec::new(),
             added: Vec::new(),
             held: Vec::new(),
             reserved: Vec::new(),
-            same: false,
+            same: 0,
             tables: BTreeSet::new(),
             ended: false,
         }
@@ -145,9 +158,15 @@ impl Replay {
         match words[..] {
             ["boot"] => {}
             ["map", "base", base, "size", size, "kind", kind] => {
-                if hex(kind)? == USABLE {
-                    self.usable.push((hex(base)?, hex(size)?));
-                }
+                self.map.push((hex(base)?, hex(size)?, narrow(hex(kind)?)?));
+            }
+            ["report", byte] => {
+                let byte: u8 = narrow(hex(byte)?)?;
+                self.report.fill(byte);
+                self.entries.clear();
+            }
+            ["entry", "base", base, "size", size, "kind", kind] => {
+                self.entry((hex(base)?, hex(size)?, narrow(hex(kind)?)?))?;
             }
             ["held", "base", base, "size", size] => {
                 self.held.push((hex(base)?, hex(size)?));
@@ -162,9 +181,11 @@ impl Replay {
                 *self.block(name)?.get_mut(at).ok_or("outside the block")? = byte;
             }
             ["same", "block", "mirror", _] => {
-                self.same = true;
-                let same = self.blocks["block"] == self.blocks["mirror"];
-                return Ok((format!("same block mirror {:#x}", u8::from(same)), more));
+                if self.blocks["block"] != self.blocks["mirror"] {
+                    return Err("the second program's two blocks differ".into());
+                }
+                self.same += 1;
+                return Ok(("same block mirror 0x1".into(), more));
             }
             ["use", "base", base, "size", size, "holds", _] => {
                 return Ok((format!("use base {base} size {size} holds 0x1"), more));
@@ -191,22 +212,38 @@ impl Replay {
             .ok_or(format!("no block '{name}'"))
     }
 
+    /// An entry more in the report.
+    fn entry(&mut self, entry: Entry) -> Result<(), Wrong> {
+        let (base, size, kind) = entry;
+        let at = self.entries.len() * REPORT_ENTRY_LEN;
+        let bytes = self.report[..REPORT_LEN - GUARD]
+            .get_mut(at..at + REPORT_ENTRY_LEN)
+            .ok_or("more entries than the report has room for")?;
+        bytes[..8].copy_from_slice(&base.to_le_bytes());
+        bytes[8..16].copy_from_slice(&size.to_le_bytes());
+        bytes[16..].copy_from_slice(&kind.to_le_bytes());
+        self.entries.push(entry);
+        Ok(())
+    }
+
     /// Makes the call on the second program; its line.
     fn call(&mut self, function: &str, arguments: &str) -> Result<String, Wrong> {
         let mut words = arguments.split(", ");
         let name = words.next().ok_or("no block")?.to_string();
         let mut numbers = Vec::new();
         let mut slip_length = None;
+        let mut report_length = None;
         while let Some(word) = words.next() {
-            if word == "slip" {
-                slip_length = Some(hex(words.next().ok_or("no slip length")?)? as usize);
-            } else {
-                numbers.push(hex(word)?);
+            let mut length = || words.next().ok_or("no length of what is lent".to_string());
+            match word {
+                "slip" => slip_length = Some(hex(length()?)? as usize),
+                "report" => report_length = Some(hex(length()?)? as usize),
+                number => numbers.push(hex(number)?),
             }
         }
         let (&length, numbers) = numbers.split_first().ok_or("no length")?;
-        let ranged = (name == "block" && numbers.len() >= 2).then(|| (numbers[0], numbers[1]));
-        let buffer = self.block(&name)?;
+        let ranged = (numbers.len() >= 2).then(|| (numbers[0], numbers[1]));
+        let buffer = self.blocks.get_mut(&name[..]).ok_or("no such block")?;
         let block = buffer
             .get_mut(..length as usize)
             .ok_or("longer than the block")?;
@@ -214,8 +251,18 @@ impl Replay {
         let lent = slip
             .get_mut(..slip_length.unwrap_or(0))
             .ok_or("longer than the slip")?;
+        let report = self
+            .report
+            .get(..report_length.unwrap_or(0))
+            .ok_or("longer than the report")?;
 
         let number = match (function, numbers, slip_length) {
+            ("memblock_intake_e820", [], None) if report_length.is_some() => {
+                model::intake_e820(block, report)
+            }
+            _ if report_length.is_some() => {
+                return Err(format!("unknown call: {function}({arguments})"))
+            }
             ("memblock_fresh", [], None) => model::fresh(block),
             ("memblock_set", &[limit, direction], None) => {
                 model::set(block, limit, narrow(direction)?)
@@ -247,10 +294,18 @@ impl Replay {
             let half = |at| u64::from_le_bytes(slip[at..at + 8].try_into().expect("8 bytes"));
             let _ = write!(line, " slip {:#x} {:#x}", half(0), half(8));
         }
-        if let (Some(range), 0) = (ranged, number) {
-            match function {
-                "memblock_add" => self.added.push(range),
-                "memblock_reserve" => self.reserved.push(range),
+        if report_length.is_some() {
+            let _ = write!(line, " report {:#x}", sum(&self.report));
+        }
+        if number == 0 {
+            match (function, &name[..], ranged) {
+                ("memblock_add", "mirror", Some(range)) if self.same == 0 => self.added.push(range),
+                ("memblock_reserve", "block", Some(range)) => self.reserved.push(range),
+                ("memblock_intake_e820", ..) => {
+                    let count = report.len() / REPORT_ENTRY_LEN;
+                    let entries = self.entries[..count].to_vec();
+                    self.taken_in.push((name, entries));
+                }
                 _ => {}
             }
         }
@@ -267,13 +322,25 @@ impl Replay {
                 return Err(format!("{function} was never called"));
             }
         }
-        for number in 0..NUMBERS {
+        for number in NUMBERS {
             if !self.numbers.contains(&number) {
                 return Err(format!("the number {number} was never answered"));
             }
         }
-        if self.added != self.usable {
+        let backwards: Vec<Entry> = self.map.iter().rev().copied().collect();
+        let usable: Vec<(u64, u64)> = backwards
+            .iter()
+            .filter(|entry| entry.2 == USABLE)
+            .map(|entry| (entry.0, entry.1))
+            .collect();
+        if self.added != usable {
             return Err("what was added is not what the map calls usable".into());
+        }
+        for (name, map) in [("block", &self.map), ("mirror", &backwards)] {
+            let report = (name.to_string(), map.clone());
+            if !self.taken_in.contains(&report) {
+                return Err(format!("the map was not taken in on '{name}'"));
+            }
         }
         if self.held.is_empty()
             || !self
@@ -282,8 +349,8 @@ impl Replay {
         {
             return Err("what was in use was not reserved".into());
         }
-        if !self.same {
-            return Err("the two orders were never compared".into());
+        if self.same != 2 {
+            return Err("the report and its entries backwards were not both compared".into());
         }
         if self.tables.len() != self.blocks.len() {
             return Err("a block's tables are missing".into());

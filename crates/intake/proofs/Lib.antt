@@ -1,0 +1,5 @@
+pub mod ByKind
+pub mod Entries
+pub mod Turns
+pub mod Whole
+pub mod Good

@@ -1,0 +1,19 @@
+-- Several commands as one: in turn, and whole or not at all. Assumes nothing.
+use Prim.Native.Nat.{ℕ}
+use mathlib.Core.Bool.{cond}
+use mathlib.Core.List.{List, [], _∷_}
+use lib.Dec.{eqb}
+use Rattle.tables.specs.Commands.{Outcome, done, unless}
+
+-- a command with its numbers: what it answers and leaves of a block
+abbrev pub Step : Type 0
+Step = List ℕ → Outcome
+
+-- each on the block that the one before it left; the first refusal ends it
+unfoldable pub inTurn : List Step → Step
+inTurn [] b = done b
+inTurn (s ∷ ss) b = cond (eqb (s b .number) 0) (inTurn ss (s b .block)) (s b)
+
+-- the same, but a refusal leaves the block as it was before the first
+unfoldable pub wholly : List Step → Step
+wholly ss b = unless (eqb (inTurn ss b .number) 0) (inTurn ss b .number) b (inTurn ss b)

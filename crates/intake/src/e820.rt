@@ -1,0 +1,132 @@
+// E820 reports: entries of 20 bytes, u64 base, u64 length, u32 kind, little-endian.
+use address::Address;
+use address::Size;
+use regions::Tag;
+use regions::bytes::get_u32;
+use regions::bytes::get_u64;
+use tables::commands::add;
+use tables::commands::trim;
+use tables::table::copy_front;
+ghost use mathlib.Core.Path.{_≡_};
+ghost use Prim.Native.Nat.{_+_, _≤_};
+ghost use lib.ListN.{length, drop};
+ghost use Rattle.tables.specs.Block.{current};
+ghost use Rattle.tables.specs.Commands.{outcome};
+ghost use Rattle.intake.specs.E820.{readEntry, entries, becomes as becomesOf, takeEntry, entrySteps, intakeE820};
+ghost use Rattle.intake.specs.Turns.{inTurn, wholly};
+
+// The length of a block.
+const BLOCK: usize = 6224;
+
+// One range of the report.
+pub struct Entry {
+    pub base: Address,
+    pub size: Size,
+    pub kind: u32,
+}
+
+// What an entry becomes.
+pub enum Becomes {
+    Added,
+    PassedOver,
+}
+
+// By kind, as the ACPI specification numbers them.
+const KINDS: [Becomes; 8] = [
+    Becomes::PassedOver, // 0: no kind
+    Becomes::Added, // 1: memory
+    Becomes::PassedOver, // 2: reserved
+    Becomes::PassedOver, // 3: ACPI tables
+    Becomes::PassedOver, // 4: ACPI non-volatile
+    Becomes::PassedOver, // 5: unusable
+    Becomes::PassedOver, // 6: disabled
+    Becomes::PassedOver, // 7: persistent
+];
+
+impl Entry {
+    // What the table of kinds says; numbers outside it are passed over.
+    fn becomes(self) -> Becomes
+        ensures { λ r. ⌜ r ≡ becomesOf (self .kind) ⌝ }
+    {
+        let kind = self.kind as usize;
+        if KINDS.len() <= kind {
+            return Becomes::PassedOver;
+        }
+        KINDS[kind]
+    }
+}
+
+// The entry at `at`.
+fn get_entry(report: &[u8], at: usize) -> Entry
+    requires { ⌜ at + 20 ≤ length (now report) ⌝ }
+    ensures { λ r. ⌜ r ≡ readEntry (drop at (now (report .entry))) ⌝ }
+{
+    let base = get_u64(report, at);
+    let size = get_u64(report, at + 8);
+    let kind = get_u32(report, at + 16);
+    Entry {
+        base: Address(base),
+        size: Size(size),
+        kind,
+    }
+}
+
+// One entry on a block.
+fn take_entry(block: &mut [u8], entry: Entry) -> u32
+    ensures { λ r. ⌜ outcome r (now (block .exit)) ≡ takeEntry current entry (now (block .entry)) ⌝ }
+{
+    let base = entry.base;
+    let size = entry.size;
+    match entry.becomes() {
+        Becomes::Added => add(block, base, size, Tag { flags: 0, node: 0 }),
+        Becomes::PassedOver => 0,
+    }
+}
+
+// The entries in turn, then memory trimmed by 4096; the first refusal ends it.
+fn take_in_turn(block: &mut [u8], report: &[u8]) -> u32
+    ensures { λ r. ⌜ outcome r (now (block .exit)) ≡ inTurn (entrySteps current (entries (now (report .entry)))) (now (block .entry)) ⌝ }
+{
+    let count = report.len() / 20;
+    let mut i = 0;
+    while i < count {
+        let number = take_entry(block, get_entry(report, 20 * i));
+        if number != 0 {
+            return number;
+        }
+        i += 1;
+    }
+    trim(block, Size(4096))
+}
+
+// The same, whole or not at all: a copy of the block is kept on the stack, and put back after a refusal.
+fn take_wholly(block: &mut [u8], report: &[u8]) -> u32
+    requires { ⌜ length (now block) ≡ 6224 ⌝ }
+    ensures { λ r. ⌜ outcome r (now (block .exit)) ≡ wholly (entrySteps current (entries (now (report .entry)))) (now (block .entry)) ⌝ }
+{
+    let mut kept = [0u8; BLOCK];
+    copy_front(&mut kept, block, BLOCK);
+    let number = take_in_turn(block, report);
+    if number != 0 {
+        copy_front(block, &kept, BLOCK);
+        return number;
+    }
+    0
+}
+
+// Takes a report in. Adding a range of size 0 changes nothing and answers 1 exactly when the block is not good.
+pub fn intake(block: &mut [u8], report: &[u8]) -> u32
+    ensures { λ r. ⌜ outcome r (now (block .exit)) ≡ intakeE820 current (now (report .entry)) (now (block .entry)) ⌝ }
+{
+    let number = add(block, Address(0), Size(0), Tag { flags: 0, node: 0 });
+    if number != 0 {
+        return number;
+    }
+    if report.len() % 20 != 0 {
+        return 10;
+    }
+    if 128 < report.len() / 20 {
+        return 10;
+    }
+    take_wholly(block, report)
+}

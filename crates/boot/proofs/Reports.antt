@@ -54,8 +54,7 @@ record AllDone (cs : List Command) (b : List ℕ) (o : Outcome) : Type 0 where
 all-done : (es : List Entry) (b : List ℕ) → inTurn (entrySteps current es) b .number ≡ 0 → AllDone (commands es) b (inTurn (entrySteps current es) b)
 unfolding commands entrySteps inTurn run done outcomeBy
 all-done [] b h = record { each = refl; ends = turn-last (trim current 4096) b }
-all-done (e ∷ es) b h = go (becomes (e .kind)) h
-    (λ c z. all-done es c z)
+all-done (e ∷ es) b h = go (becomes (e .kind)) h (all-done es)
   where
     go : (k : Becomes) → inTurn (takeAs k current e ∷ entrySteps current es) b .number ≡ 0
         → ((c : List ℕ) → inTurn (entrySteps current es) c .number ≡ 0 → AllDone (commands es) c (inTurn (entrySteps current es) c))

@@ -28,8 +28,8 @@ kind-listed (suc (suc k)) h = getD-replicate 6 k PassedOver Added (omega arith) 
 -- ---- one entry on a block
 
 module _ (e : Entry) (k : Becomes) (is : k ≡ becomes (e .kind)) (b : List ℕ) where
-  pub taken-added : k ≡ Added → (o : Outcome) → o ≡ add current (e .base .0) (e .size .0) 0 0 b → o ≡ takeEntry current e b
-  taken-added a o h = h ∙ ap (λ (x : Becomes). takeAs x current e b) (sym a ∙ is)
+  pub entry-added : k ≡ Added → (o : Outcome) → o ≡ add current (e .base .0) (e .size .0) 0 0 b → o ≡ takeEntry current e b
+  entry-added a o h = h ∙ ap (λ (x : Becomes). takeAs x current e b) (sym a ∙ is)
 
-  pub taken-over : k ≡ PassedOver → outcome 0 b ≡ takeEntry current e b
-  taken-over p = ap (λ (x : Becomes). takeAs x current e b) (sym p ∙ is)
+  pub entry-passed : k ≡ PassedOver → outcome 0 b ≡ takeEntry current e b
+  entry-passed p = ap (λ (x : Becomes). takeAs x current e b) (sym p ∙ is)

@@ -1,32 +1,24 @@
 -- A report taken in on a good block leaves a good block, and past the checks it answers 0 or 6. Assumes nothing.
-use Prim.Native.Nat.{ℕ, _-_, _<_}
+use Prim.Native.Nat.{ℕ, _-_}
 use mathlib.Core.Path.{_≡_, refl}
 use mathlib.Core.Bool.{Bool, true, false, cond}
 use mathlib.Core.List.{List, [], _∷_}
 use mathlib.Core.Logic.{_⊎_, inl, inr}
 use native.Mathlib.Omega.{arith}
-use lib.Dec.{leb, ltb, eqb}
+use lib.Dec.{leb, eqb}
 use lib.ListN.{length}
-use borrow.Author.Tests.{le-leb}
-use Rattle.address.specs.Numbers.{up, down, powerBelow}
-use Rattle.address.proofs.Tests.{both, and}
-use Rattle.regions.specs.declared.Kind.{Kind}
+use Rattle.address.specs.Numbers.{powerBelow}
+use Rattle.address.proofs.Tests.{and}
 use Rattle.regions.specs.declared.Kind.the-variants.{Memory}
 use Rattle.regions.specs.declared.Region.{Region}
 use Rattle.regions.specs.declared.Change.the-variants.{Fill}
-use Rattle.regions.specs.Meaning.{region, end}
-use Rattle.regions.specs.Lists.{legalTag, legal, goodList}
+use Rattle.regions.specs.Lists.{legalTag}
 use Rattle.regions.specs.Changes.{changed}
-use Rattle.regions.specs.Trim.{roundEach, trimmedList}
-use Rattle.regions.proofs.Rises.{Rises-rises}
-use Rattle.regions.proofs.Good.{good-rises, good-legal}
 use Rattle.regions.proofs.Legal.{fill-keeps}
-use Rattle.regions.proofs.Trim.{round-rises, round-length, trim-rounds}
-use Rattle.tables.specs.Block.{current, capacity, withList, blockBytes, contents, good}
+use Rattle.tables.specs.Block.{current, capacity, contents, good}
 use Rattle.tables.specs.Commands.{Outcome, outcome, store, tag, add, trim}
-use Rattle.tables.proofs.Blocks.{room, lists-ok, good-contents}
 use Rattle.tables.proofs.Setting.{small-current}
-use Rattle.tables.proofs.Kept.{list-kept, change-kept}
+use Rattle.tables.proofs.Kept.{change-kept, trim-kept}
 use Rattle.intake.specs.declared.e820.Entry.{Entry}
 use Rattle.intake.specs.declared.e820.Becomes.{Becomes}
 use Rattle.intake.specs.declared.e820.Becomes.the-variants.{Added, PassedOver}
@@ -40,18 +32,6 @@ pub record Sound (o : Outcome) : Type 0 where
   pub number : (o .number ≡ 0) ⊎ (o .number ≡ 6)
 
 -- ---- add and trim
-
--- rounded records keep their tags
-round-legal : (n : ℕ) (k : Kind) (xs : List Region) → legal k xs ≡ true → legal k (roundEach n xs) ≡ true
-unfolding legal roundEach
-round-legal n k [] h = refl
-round-legal n k (r ∷ rs) h = go (both (legalTag k (r .tag)) (legal k rs) h .0) (round-legal n k rs (both (legalTag k (r .tag)) (legal k rs) h .1))
-    (ltb (up (r .base .0) n) (down (end r) n))
-  where
-    go : legalTag k (r .tag) ≡ true → legal k (roundEach n rs) ≡ true → (t : Bool)
-        → legal k (cond t (region (up (r .base .0) n) (down (end r) n - up (r .base .0) n) (r .tag) ∷ roundEach n rs) (roundEach n rs)) ≡ true
-    go p q true = and p q
-    go p q false = q
 
 module _ (b : List ℕ) (g : good current b ≡ true) where
   pub add-sound : (base size : ℕ) → Sound (add current base size 0 0 b)
@@ -67,20 +47,9 @@ module _ (b : List ℕ) (g : good current b ≡ true) where
           (record { isGood = change-kept current small-current b g Memory (Fill (tag 0 0)) base size (fill-keeps Memory (tag 0 0) refl) f .isGood; number = inl refl })
       go false f = rw (g, f) (record { isGood = g; number = inr refl })
 
-  trimmed-good : (n : ℕ) → 0 < n → good current (blockBytes current (withList (contents current b) Memory (trimmedList n (contents current b .memory)))) ≡ true
-  unfolding goodList
-  trimmed-good n pos =
-      let xs : List Region = contents current b .memory in
-      let p = good-contents current b g in
-      let q = lists-ok current (contents current b) p Memory in
-      let w = good-rises Memory xs q in
-      let l = le-leb (length (roundEach n xs)) (capacity current Memory) (omega (arith, round-length n xs, room current (contents current b) p Memory)) in
-      rw (trim-rounds n xs pos w)
-      (list-kept current small-current b g Memory (roundEach n xs) l (and (Rises-rises (round-rises n pos w)) (round-legal n Memory xs (good-legal Memory xs q))) .isGood)
-
   pub trim-sound : Sound (trim current 4096 b)
   unfolding trim powerBelow
-  trim-sound = rw g (record { isGood = trimmed-good 4096 (omega arith); number = inl refl })
+  trim-sound = rw g (record { isGood = trim-kept current small-current b g 4096 (omega arith) .isGood; number = inl refl })
 
 -- ---- in turn, and whole
 

@@ -1,5 +1,4 @@
 pub mod ByKind
-pub mod Entries
 pub mod Turns
 pub mod Whole
 pub mod Good

@@ -1,18 +1,18 @@
 -- The walk over a report: what is still to be taken in, on the block so far, is what the whole report is on the block at the start. Assumes nothing.
 use Prim.Native.Nat.{ℕ, _+_, _-_, _*_, _≤_, _<_}
-use mathlib.Core.Path.{_≡_, refl, sym, _∙_}
+use mathlib.Core.Path.{_≡_, refl, sym, ap, _∙_}
 use mathlib.Core.Bool.{Bool, true, false, cond}
 use mathlib.Core.List.{List, [], _∷_}
 use native.Mathlib.Omega.{arith}
 use lib.Dec.{eqb}
 use lib.ListN.{drop}
 use borrow.Author.Tests.{eq-eqb, ne-eqb, eqb-true}
+use Rattle.regions.proofs.Items.{items-rest, items-end}
 use Rattle.tables.specs.Block.{current}
 use Rattle.tables.specs.Commands.{Outcome, outcome, done, trim}
 use Rattle.intake.specs.declared.e820.Entry.{Entry}
 use Rattle.intake.specs.E820.{readEntry, readEntries, takeEntry, entrySteps}
 use Rattle.intake.specs.Turns.{Step, inTurn}
-use Rattle.intake.proofs.Entries.{entries-rest, entries-end}
 
 -- ---- steps in turn
 
@@ -46,8 +46,8 @@ entries-start r n b =
 module _ (r : List ℕ) (n i : ℕ) (b : List ℕ) (whole : Outcome) (inv : whole ≡ Rest r n i b) where
   module _ (h : i < n) (e : Entry) (is : e ≡ readEntry (drop (20 * i) r)) (x : ℕ) (b′ : List ℕ) (o : outcome x b′ ≡ takeEntry current e b) where
     rest-step : Rest r n i b ≡ inTurn (takeEntry current e ∷ entrySteps current (readEntries (n - (i + 1)) (drop (20 * (i + 1)) r))) b
-    unfolding entrySteps
-    rest-step = rw (entries-rest i n r h, is)
+    unfolding entrySteps readEntries
+    rest-step = rw (items-rest 20 readEntry readEntries (λ l. refl) (λ m l. refl) i n r h, is)
 
     pub entries-refused : (x ≡ 0 → ⊥) → outcome x b′ ≡ whole
     entries-refused z = turn-refused (takeEntry current e) _ b x b′ o z ∙ sym rest-step ∙ sym inv
@@ -56,5 +56,7 @@ module _ (r : List ℕ) (n i : ℕ) (b : List ℕ) (whole : Outcome) (inv : whol
     entries-next z = inv ∙ rest-step ∙ sym (turn-next (takeEntry current e) _ b x b′ o z)
 
   pub entries-done : n ≤ i → (o : Outcome) → o ≡ trim current 4096 b → o ≡ whole
-  unfolding entrySteps
-  entries-done h o e = e ∙ sym (turn-last (trim current 4096) b) ∙ sym (inv ∙ rw (entries-end i n (drop (20 * i) r) h))
+  unfolding entrySteps readEntries
+  entries-done h o e =
+      let z : readEntries (n - i) (drop (20 * i) r) ≡ [] = items-end 20 readEntry readEntries (λ l. refl) (λ m l. refl) i n (drop (20 * i) r) h in
+      e ∙ sym (turn-last (trim current 4096) b) ∙ sym (inv ∙ ap (λ (es : List Entry). inTurn (entrySteps current es) b) z)

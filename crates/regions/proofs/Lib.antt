@@ -1,4 +1,5 @@
 pub mod Numbers
+pub mod Items
 pub mod Records
 pub mod Spelled
 pub mod Push

@@ -9,6 +9,7 @@ use lib.ListN.{length, take, drop, length-append, length-drop, take-append-drop}
 use lib.Seq.{sets, sets-eq, drop-drop, drop-append-le, drop-at, take-add, length-take-le}
 use Rattle.regions.specs.declared.Region.{Region}
 use Rattle.regions.specs.Bytes.{bytes, readRegion, regionBytes, readRegions, regionsBytes}
+use Rattle.regions.proofs.Items.{items-rest, items-end}
 use Rattle.regions.proofs.Numbers.{Bytes, bytes-number, number-bytes, number-append, bytes-length, bytes-drop, sets-append}
 
 -- a record written field by field
@@ -177,13 +178,8 @@ read-regions-bytes (r ∷ rs) l (more f fs) =
 pub read-regions-rest : (i n : ℕ) (l : List ℕ) → i < n
     → readRegions (n - i) (drop (24 * i) l) ≡ readRegion (drop (24 * i) l) ∷ readRegions (n - (i + 1)) (drop (24 * (i + 1)) l)
 unfolding readRegions
-read-regions-rest i n l h =
-    let e : n - i ≡ suc (n - (i + 1)) = omega arith in
-    let f : 24 * i + 24 ≡ 24 * (i + 1) = omega arith in
-    rw (e, readRegions) (rw (drop-drop, f))
+read-regions-rest i n l h = items-rest 24 readRegion readRegions (λ x. refl) (λ m x. refl) i n l h
 
 pub read-regions-end : (i n : ℕ) (l : List ℕ) → n ≤ i → readRegions (n - i) l ≡ []
 unfolding readRegions
-read-regions-end i n l h =
-    let e : n - i ≡ 0 = omega arith in
-    rw e
+read-regions-end i n l h = items-end 24 readRegion readRegions (λ x. refl) (λ m x. refl) i n l h

@@ -11,11 +11,13 @@ use borrow.Author.Tests.{ltb-true, ltb-false, lt-ltb, le-ltb, le-leb, lt-leb}
 use Rattle.address.specs.Numbers.{up, down}
 use Rattle.address.proofs.Tests.{both, and, no, le-or-lt}
 use Rattle.address.proofs.Rounding.{up-ge, up-multiple, up-least, down-le, down-near, down-multiple, down-most, next-multiple}
+use Rattle.regions.specs.declared.Kind.{Kind}
 use Rattle.regions.specs.declared.Tag.{Tag}
 use Rattle.regions.specs.declared.Region.{Region}
 use Rattle.regions.specs.declared.State.{State}
 use Rattle.regions.specs.declared.State.the-variants.{Absent, Present}
 use Rattle.regions.specs.Meaning.{Meaning, top, region, end, inside, at}
+use Rattle.regions.specs.Lists.{legalTag, legal}
 use Rattle.regions.specs.Trim.{sameState, throughout, trimmed, roundEach, trimmedList}
 use Rattle.regions.proofs.Push.{same-true, same-self}
 use Rattle.regions.proofs.Rises.{Fits, Rises, done, next, Canonical}
@@ -233,3 +235,15 @@ round-length k (r ∷ rs) = go (ltb (up (r .base .0) k) (down (end r) k)) (round
         → length (cond b (region (up (r .base .0) k) (down (end r) k - up (r .base .0) k) (r .tag) ∷ roundEach k rs) (roundEach k rs)) ≤ suc (length rs)
     go true h = omega arith
     go false h = omega arith
+
+-- and keeps every tag
+pub round-legal : (n : ℕ) (k : Kind) (xs : List Region) → legal k xs ≡ true → legal k (roundEach n xs) ≡ true
+unfolding legal roundEach
+round-legal n k [] h = refl
+round-legal n k (r ∷ rs) h = go (both (legalTag k (r .tag)) (legal k rs) h .0) (round-legal n k rs (both (legalTag k (r .tag)) (legal k rs) h .1))
+    (ltb (up (r .base .0) n) (down (end r) n))
+  where
+    go : legalTag k (r .tag) ≡ true → legal k (roundEach n rs) ≡ true → (t : Bool)
+        → legal k (cond t (region (up (r .base .0) n) (down (end r) n - up (r .base .0) n) (r .tag) ∷ roundEach n rs) (roundEach n rs)) ≡ true
+    go p q true = and p q
+    go p q false = q

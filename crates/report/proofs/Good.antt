@@ -1,20 +1,15 @@
--- A report taken in on a fresh block leaves a good block, and the tables of a good block hold their records. Assumes nothing.
-use Prim.Native.Nat.{ℕ, _+_, _*_, _-_, _≤_}
+-- A report taken in on a fresh block leaves a good block. Assumes nothing.
+use Prim.Native.Nat.{ℕ, _-_}
 use mathlib.Core.Path.{_≡_, refl, ap, _∙_}
 use mathlib.Core.Bool.{true}
 use mathlib.Core.List.{List}
-use lib.ListN.{length, take, drop}
+use lib.ListN.{length}
 use borrow.Author.Tests.{eq-eqb}
-use Rattle.regions.specs.declared.Kind.{Kind}
 use Rattle.regions.specs.Lists.{rises, legal}
-use Rattle.tables.specs.declared.block.Header.{Header}
-use Rattle.tables.specs.declared.block.Tally.{Tally}
-use Rattle.tables.specs.Block.{current, offset, capacity, freshContents, readHeader, good}
-use Rattle.tables.specs.Checks.{tallyOf}
+use Rattle.tables.specs.Block.{current, freshContents, good}
 use Rattle.tables.specs.Commands.{Outcome, outcome, fresh}
 use Rattle.tables.proofs.Setting.{small-current}
 use Rattle.tables.proofs.Reading.{good-spelled-block}
-use Rattle.tables.proofs.Ranging.{range-table}
 use Rattle.intake.specs.E820.{intakeE820}
 use Rattle.intake.proofs.Good.{intake-good}
 use Rattle.boot.proofs.Playing.{sound-spellable}
@@ -29,7 +24,3 @@ taken-good z h n m x y p r q =
     let f : x ≡ fresh current z .block = ap (λ (o : Outcome). o .block) p in
     let g : good current x ≡ true = ap (good current) f ∙ fresh-good z h in
     ap (λ (o : Outcome). good current (o .block)) q ∙ intake-good r x g
-
-pub table-room : (b : List ℕ) → good current b ≡ true → (k : Kind) (a e : ℕ) → a ≡ offset current k → e ≡ offset current k + 24 * capacity current k → (h : Header)
-    → h ≡ readHeader b → (t : Tally) → t ≡ tallyOf h k → 24 * t .count ≤ length (take (e - a) (drop a b))
-table-room b g k a e ea ee h eh t et = range-table b g k a e ea ee h eh t et .room

@@ -1,8 +1,9 @@
 -- The commands keep a block good: with a good list that its table has room for, a good block is spelled as a good block that says it. Assumes nothing.
-use Prim.Native.Nat.{ℕ}
+use Prim.Native.Nat.{ℕ, _<_}
 use mathlib.Core.Path.{_≡_}
 use mathlib.Core.Bool.{true}
 use mathlib.Core.List.{List}
+use native.Mathlib.Omega.{arith}
 use lib.Dec.{leb}
 use lib.ListN.{length}
 use borrow.Author.Tests.{le-leb}
@@ -13,14 +14,18 @@ use Rattle.regions.specs.declared.Region.{Region}
 use Rattle.regions.specs.declared.Change.{Change}
 use Rattle.regions.specs.Lists.{goodList}
 use Rattle.regions.specs.Changes.{changed}
+use Rattle.regions.specs.Trim.{roundEach, trimmedList}
 use Rattle.regions.proofs.Numbers.{Bytes}
 use Rattle.regions.proofs.Spelled.{bytes-append, number-spelled, table-spelled}
 use Rattle.regions.proofs.Legal.{Keeps, changed-good}
+use Rattle.regions.proofs.Trim.{round-rises, round-length, round-legal, trim-rounds}
+use Rattle.regions.proofs.Rises.{Rises-rises}
+use Rattle.regions.proofs.Good.{good-rises, good-legal}
 use Rattle.tables.specs.declared.block.Layout.{Layout}
 use Rattle.tables.specs.declared.block.Header.{Header}
 use Rattle.tables.specs.Block.{capacity, offset, Contents, listOf, withList, entryBytes, settingsBytes, totalsBytes, entriesBytes, headerBytes, headerOf, blockBytes, contents, goodTable, goodContents, good}
 use Rattle.tables.specs.Checks.{Small}
-use Rattle.tables.proofs.Blocks.{direction-ok, tables-ok, lists-ok, good-contents, good-spelled}
+use Rattle.tables.proofs.Blocks.{direction-ok, tables-ok, room, lists-ok, good-contents, good-spelled}
 use Rattle.tables.proofs.Reading.{Spellable, contents-spelled, good-spelled-block, good-spellable}
 
 -- ---- a good block's elements are bytes
@@ -89,3 +94,16 @@ module _ (L : Layout) (small : Small L) (b : List ℕ) (g : good L b ≡ true) w
   change-kept k c base size h l =
       let xs : List Region = listOf (contents L b) k in
       list-kept k (changed c base size xs) l (changed-good k c base size xs (lists-ok L (contents L b) (good-contents L b g) k) h)
+
+  -- what trim leaves
+  pub trim-kept : (n : ℕ) → 0 < n
+      → Kept L Memory (trimmedList n (contents L b .memory)) b (blockBytes L (withList (contents L b) Memory (trimmedList n (contents L b .memory))))
+  unfolding goodList
+  trim-kept n pos =
+      let xs : List Region = contents L b .memory in
+      let p = good-contents L b g in
+      let q = lists-ok L (contents L b) p Memory in
+      let w = good-rises Memory xs q in
+      let l = le-leb (length (roundEach n xs)) (capacity L Memory) (omega (arith, round-length n xs, room L (contents L b) p Memory)) in
+      rw (trim-rounds n xs pos w)
+      (list-kept Memory (roundEach n xs) l (and (Rises-rises (round-rises n pos w)) (round-legal n Memory xs (good-legal Memory xs q))))

@@ -2,7 +2,7 @@
 use Rattle.tables.specs.Block.{current}
 use Rattle.tables.proofs.Blocks.{good-length}
 use Rattle.tables.proofs.Storing.{span-le}
-use Rattle.report.proofs.Good.{table-room}
+use Rattle.tables.proofs.Ranging.{range-table}
 use native.Mathlib.Omega.{arith}
 use borrow.Author.Needs.{needs}
 use Rattle.report.proofs.say_table.Statement.{statement}
@@ -34,7 +34,7 @@ cast-say-records c = search needs
 say-records-requires : tie.Need-say-records-requires
 say-records-requires c κs =
     let span = c .before .before .before .before .table-span .ensures in
-    table-room _ (c .before .before .before .before .before .before .pre) _ _ _ (span .0) (span .1) _ (c .before .before .before .get-header .ensures) _ (c .before .before .tally .ensures)
+    range-table _ (c .before .before .before .before .before .before .pre) _ _ _ (span .0) (span .1) _ (c .before .before .before .get-header .ensures) _ (c .before .before .tally .ensures) .room
 
 returns : tie.Need-returns
 returns c = search needs

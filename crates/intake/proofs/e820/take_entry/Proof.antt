@@ -1,5 +1,5 @@
 -- `intake::e820::take_entry` meets its contract.
-use Rattle.intake.proofs.ByKind.{taken-added, taken-over}
+use Rattle.intake.proofs.ByKind.{entry-added, entry-passed}
 use borrow.Author.Needs.{needs}
 use Rattle.intake.proofs.e820.take_entry.Statement.{statement}
 use Rattle.intake.proofs.e820.take_entry.Tie as tie
@@ -20,10 +20,10 @@ same-length : tie.Need-same-length
 same-length c = search needs
 
 returns : tie.Need-returns
-returns c = search (taken-added, needs)
+returns c = search (entry-added, needs)
 
 returns-2 : tie.Need-returns-2
-returns-2 c = search (taken-over, needs)
+returns-2 c = search (entry-passed, needs)
 
 pub take-entry-spec : {M : Type 1} → statement M
 take-entry-spec =

@@ -1,12 +1,14 @@
-//! Links the archive that MEMBLOCK_ARCHIVE names. The functions are taken out of
-//! it into one object in which only their names can be seen, so that nothing
-//! else in it (a panic handler, say) meets a name of this program.
+//! Links the archive that MEMBLOCK_ARCHIVE names, and beside it the one that
+//! BENCH_BEFORE names, with other names of its functions; if that is not set, the
+//! same archive again. The functions of each are taken out of it into one object
+//! in which only their names can be seen, so that nothing else in it (a panic
+//! handler, say) meets a name of this program.
 //!
 //! Where a loop lies within a cache line can change its time. BENCH_PLACE says
 //! how many bytes past the start of a line the functions begin, so that this is
 //! a choice and not an accident of linking.
 
-use std::path::PathBuf;
+use std::path::{Path, PathBuf};
 use std::process::Command;
 
 const FUNCTIONS: [&str; 13] = [
@@ -25,23 +27,49 @@ const FUNCTIONS: [&str; 13] = [
     "memblock_intake_e820",
 ];
 
+/// Before the names of the functions of the archive that BENCH_BEFORE names.
+const BEFORE: &str = "before_";
+
 fn main() {
-    println!("cargo:rerun-if-env-changed=MEMBLOCK_ARCHIVE");
-    let Some(archive) = std::env::var_os("MEMBLOCK_ARCHIVE").map(PathBuf::from) else {
-        panic!("MEMBLOCK_ARCHIVE must name the static archive to measure");
-    };
-    println!("cargo:rerun-if-changed={}", archive.display());
-    assert!(archive.is_file(), "no file {}", archive.display());
     println!("cargo:rerun-if-env-changed=BENCH_PLACE");
     let place: u32 = std::env::var("BENCH_PLACE").map_or(0, |word| {
         word.parse().expect("BENCH_PLACE is a number of bytes")
     });
     println!("cargo:rustc-env=BENCH_PLACE={place}");
 
+    let Some(archive) = archive_of("MEMBLOCK_ARCHIVE") else {
+        panic!("MEMBLOCK_ARCHIVE must name the static archive to measure");
+    };
+    let before = archive_of("BENCH_BEFORE").unwrap_or_else(|| archive.clone());
     let out = PathBuf::from(std::env::var_os("OUT_DIR").expect("set by cargo"));
-    let (joined, alone) = (out.join("joined.o"), out.join("alone.o"));
-    let library = out.join("libmemblock_measured.a");
-    let script = out.join("place.ld");
+    println!("cargo:rustc-link-search=native={}", out.display());
+    link(&archive, "", place, &out);
+    link(&before, BEFORE, place, &out);
+
+    let library = "src/library.rs";
+    println!("cargo:rerun-if-changed={library}");
+    let text = std::fs::read_to_string(library).expect("it stands beside build.rs");
+    let text = text
+        .replace("memblock_", &format!("{BEFORE}memblock_"))
+        .replace("\"library\"", "\"before\"");
+    std::fs::write(out.join("before.rs"), text).expect("the output folder can be written");
+}
+
+/// The archive that a variable names, if it is set.
+fn archive_of(variable: &str) -> Option<PathBuf> {
+    println!("cargo:rerun-if-env-changed={variable}");
+    let archive = PathBuf::from(std::env::var_os(variable)?);
+    println!("cargo:rerun-if-changed={}", archive.display());
+    assert!(archive.is_file(), "no file {}", archive.display());
+    Some(archive)
+}
+
+/// Links the functions of an archive with `prefix` before their names.
+fn link(archive: &Path, prefix: &str, place: u32, out: &Path) {
+    let name = format!("{prefix}memblock_measured");
+    let file = |end: &str| out.join(format!("{name}{end}"));
+    let (joined, alone, script) = (file(".joined.o"), file(".o"), file(".ld"));
+    let library = out.join(format!("lib{name}.a"));
     let text = format!("SECTIONS {{ .text : {{ . += {place}; *(.text .text.*) }} }}\n");
     std::fs::write(&script, text).expect("the output folder can be written");
     for old in [&joined, &alone, &library] {
@@ -53,20 +81,24 @@ fn main() {
         .arg("-T")
         .arg(&script)
         .args(FUNCTIONS.iter().flat_map(|name| ["-u", name]))
-        .arg(&archive));
+        .arg(archive));
     // Compilers may leave their own notes in these sections; joined they are void.
     run(Command::new("objcopy")
         .args(["-R", ".llvmbc", "-R", ".llvmcmd"])
         .args(["--set-section-alignment", ".text=64"])
-        .args(
-            FUNCTIONS
-                .iter()
-                .flat_map(|name| ["--keep-global-symbol", name]),
-        )
+        .args(FUNCTIONS.iter().flat_map(|name| {
+            let named = format!("{prefix}{name}");
+            let redefined = format!("{name}={named}");
+            [
+                "--redefine-sym".into(),
+                redefined,
+                "--keep-global-symbol".into(),
+                named,
+            ]
+        }))
         .args([&joined, &alone]));
     run(Command::new("ar").arg("crs").arg(&library).arg(&alone));
-    println!("cargo:rustc-link-search=native={}", out.display());
-    println!("cargo:rustc-link-lib=static=memblock_measured");
+    println!("cargo:rustc-link-lib=static={name}");
 }
 
 /// Runs a program that must not fail.

@@ -1,10 +1,10 @@
 //! Random calls on both sides, to show that they follow the same rules.
 
 use crate::rng::Rng;
-use crate::sides::{call_both, entry, Block, Call, ANY_NODE, LENGTH};
+use crate::sides::{call_both, entry, Block, Call, Side, ANY_NODE, LENGTH};
 
 /// Makes this many calls; fails at the first difference.
-pub fn random_calls(calls: u64) {
+pub fn random_calls<Other: Side>(calls: u64) {
     let mut rng = Rng(1);
     let mut block = Block::fresh();
     let mut seen = [0u64; 11];
@@ -15,19 +15,19 @@ pub fn random_calls(calls: u64) {
         let call = random_call(&mut rng, turn % 4000 < 2000);
         if rng.between(0, 19) == 0 {
             let mut damaged = damaged(&mut rng, &block);
-            seen[call_both(call, &mut damaged) as usize] += 1;
+            seen[call_both::<Other>(call, &mut damaged) as usize] += 1;
         }
-        seen[call_both(call, &mut block) as usize] += 1;
+        seen[call_both::<Other>(call, &mut block) as usize] += 1;
         if turn % 20 == 0 {
             // An intake trims small ranges away: mostly go on from the block before.
             let report = random_report(&mut rng);
             let call = Call::Intake(&report);
             if rng.between(0, 19) == 0 {
                 let mut damaged = damaged(&mut rng, &block);
-                seen[call_both(call, &mut damaged) as usize] += 1;
+                seen[call_both::<Other>(call, &mut damaged) as usize] += 1;
             }
             let mut after = block.clone();
-            seen[call_both(call, &mut after) as usize] += 1;
+            seen[call_both::<Other>(call, &mut after) as usize] += 1;
             if rng.between(0, 9) == 0 {
                 block = after;
             }
@@ -37,8 +37,9 @@ pub fn random_calls(calls: u64) {
     let met = |number: usize| seen[number] > 0;
     assert!((0..8).chain([10]).all(met), "not every number met");
     println!(
-        "bench: {} random calls on both, all equal",
-        seen.iter().sum::<u64>()
+        "bench: {} random calls on library and {}, all equal",
+        seen.iter().sum::<u64>(),
+        Other::NAME
     );
 }
 

@@ -2,8 +2,9 @@
 //! allocations of a page. Beside it the same ranges by calls: added one by one,
 //! then a trim by 4096.
 
+use crate::library::Library;
 use crate::rng::Rng;
-use crate::sides::{entry, Block, Call, Library, Side, Slip, Straight, ANY_NODE, LENGTH, TOP_DOWN};
+use crate::sides::{entry, Block, Call, Side, Slip, ANY_NODE, LENGTH, TOP_DOWN};
 use crate::time::{median, nanoseconds};
 use std::hint::black_box;
 use std::time::Instant;
@@ -87,35 +88,35 @@ const BY_CALLS: usize = 3;
 #[derive(Default)]
 pub struct Times {
     library: [Vec<f64>; 4],
-    straight: [Vec<f64>; 4],
+    other: [Vec<f64>; 4],
 }
 
 /// Medians of a part over the runs of all seeds, in milliseconds.
 fn medians(seeds: &[Times], part: usize) -> (f64, f64) {
     let library = median(seeds.iter().flat_map(|times| &times.library[part]));
-    let straight = median(seeds.iter().flat_map(|times| &times.straight[part]));
-    (library / 1e6, straight / 1e6)
+    let other = median(seeds.iter().flat_map(|times| &times.other[part]));
+    (library / 1e6, other / 1e6)
 }
 
 /// Prints the medians for the whole work with the ratio of each seed, then for
 /// its two parts, then for the intake by calls.
-pub fn print(name: &str, seeds: &[Times]) {
+pub fn print<Other: Side>(name: &str, seeds: &[Times]) {
     for (part, what) in [
         (WHOLE, ""),
         (INTAKE, ", intake only"),
         (ALLOCATIONS_ONLY, ", allocations only"),
         (BY_CALLS, ", intake by add and trim only"),
     ] {
-        let (library, straight) = medians(seeds, part);
+        let (library, other) = medians(seeds, part);
         print!(
-            "bench: {name}{what}: library {library:.3} ms, straightforward {straight:.3} ms, \
-             ratio {:.2}",
-            library / straight
+            "bench: {name}{what}: library {library:.3} ms, {} {other:.3} ms, ratio {:.2}",
+            Other::NAME,
+            library / other
         );
         if part == WHOLE {
             let ratios: Vec<String> = seeds
                 .iter()
-                .map(|times| median(&times.library[WHOLE]) / median(&times.straight[WHOLE]))
+                .map(|times| median(&times.library[WHOLE]) / median(&times.other[WHOLE]))
                 .map(|ratio| format!("{ratio:.2}"))
                 .collect();
             print!(" (by seed {})", ratios.join(" "));
@@ -125,7 +126,7 @@ pub fn print(name: &str, seeds: &[Times]) {
             print!(
                 "; the intake call takes {:.2} and {:.2} of that",
                 one.0 / library,
-                one.1 / straight
+                one.1 / other
             );
         }
         println!();
@@ -143,7 +144,7 @@ fn one_turn<S: Side>(work: [&[Call]; 2], by_calls: &[Call]) -> [Run; 3] {
 }
 
 /// Runs both sides in turn and compares what each pair of runs leaves.
-pub fn measure(seed: u64, pages: Pages, direction: u32, runs: usize) -> Times {
+pub fn measure<Other: Side>(seed: u64, pages: Pages, direction: u32, runs: usize) -> Times {
     let ranges = ranges(seed, pages, direction);
     let report = report(&ranges);
     let intake = intake(&report, direction);
@@ -152,16 +153,13 @@ pub fn measure(seed: u64, pages: Pages, direction: u32, runs: usize) -> Times {
     let mut times = Times::default();
     for turn in 0..WARM_UP + runs {
         let library = one_turn::<Library>([&intake, &allocations], &by_calls);
-        let straight = one_turn::<Straight>([&intake, &allocations], &by_calls);
-        for (one, other) in library.iter().zip(&straight) {
-            assert!(one.answers == other.answers, "answers differ");
-            assert!(one.block == other.block, "blocks differ");
+        let other = one_turn::<Other>([&intake, &allocations], &by_calls);
+        for (one, two) in library.iter().zip(&other) {
+            assert!(one.answers == two.answers, "answers differ");
+            assert!(one.block == two.block, "blocks differ");
         }
         if turn >= WARM_UP {
-            for (lists, runs) in [
-                (&mut times.library, library),
-                (&mut times.straight, straight),
-            ] {
+            for (lists, runs) in [(&mut times.library, library), (&mut times.other, other)] {
                 let [intake, allocations, by_calls] = runs.map(|run| run.time);
                 lists[INTAKE].push(intake);
                 lists[ALLOCATIONS_ONLY].push(allocations);

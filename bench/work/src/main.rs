@@ -1,15 +1,22 @@
-//! Times the library beside a straightforward program with the same rules.
-//! Fails on a difference between the two, never on a time.
+//! Times the library beside a straightforward program with the same rules or,
+//! with `since`, beside an earlier library. Fails on a difference between the
+//! two, never on a time.
 
+/// The library of another archive: the text of library.rs under other names.
+mod before {
+    include!(concat!(env!("OUT_DIR"), "/before.rs"));
+}
 mod equal;
 mod growth;
 mod intake;
+mod library;
 mod rng;
 mod sides;
 mod time;
 
+use before::Library as Before;
 use intake::Pages;
-use sides::{BOTTOM_UP, TOP_DOWN};
+use sides::{Side, Straight, BOTTOM_UP, TOP_DOWN};
 
 const SEEDS: [u64; 5] = [1, 2, 3, 4, 5];
 const RUNS: usize = 100;
@@ -32,29 +39,39 @@ const SHAPES: [(&str, Pages); 4] = [
     }),
 ];
 
+type Part = (&'static str, fn());
+
 /// The parts are run in this order; arguments name those that are wanted.
-const PARTS: [(&str, fn()); 3] = [
-    ("equal", || equal::random_calls(RANDOM_CALLS)),
-    ("intake", intake),
-    ("growth", || growth::table(CALLS_OF_A_KIND)),
-];
+fn parts<Other: Side>() -> [Part; 3] {
+    [
+        ("equal", || equal::random_calls::<Other>(RANDOM_CALLS)),
+        ("intake", intake::<Other>),
+        ("growth", || growth::table::<Other>(CALLS_OF_A_KIND)),
+    ]
+}
 
 fn main() {
-    let wanted: Vec<String> = std::env::args().skip(1).collect();
+    let mut wanted: Vec<String> = std::env::args().skip(1).collect();
+    let parts = if wanted.first().is_some_and(|word| word == "since") {
+        wanted.remove(0);
+        parts::<Before>()
+    } else {
+        parts::<Straight>()
+    };
     for name in &wanted {
-        if !PARTS.iter().any(|part| part.0 == name) {
+        if !parts.iter().any(|part| part.0 == name) {
             eprintln!("bench: no part {name}; there are equal, intake and growth");
             std::process::exit(2);
         }
     }
-    for (name, part) in PARTS {
+    for (name, part) in parts {
         if wanted.is_empty() || wanted.iter().any(|word| word == name) {
             part();
         }
     }
 }
 
-fn intake() {
+fn intake<Other: Side>() {
     println!(
         "bench: E11 work, medians over {RUNS} runs of each side for each of {} seeds, \
          library's code {} bytes past a cache line",
@@ -63,8 +80,8 @@ fn intake() {
     );
     for (shape, pages) in SHAPES {
         for (direction, name) in [(TOP_DOWN, "top-down"), (BOTTOM_UP, "bottom-up")] {
-            let times = SEEDS.map(|seed| intake::measure(seed, pages, direction, RUNS));
-            intake::print(&format!("E11 work{shape}, {name}"), &times);
+            let times = SEEDS.map(|seed| intake::measure::<Other>(seed, pages, direction, RUNS));
+            intake::print::<Other>(&format!("E11 work{shape}, {name}"), &times);
         }
     }
 }

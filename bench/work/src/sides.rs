@@ -1,4 +1,6 @@
-//! The two programs that are measured, under one set of names.
+//! The programs that are measured, under one set of names.
+
+use crate::library::Library;
 
 pub const LENGTH: usize = 6224;
 pub const ANY_NODE: u32 = u32::MAX;
@@ -50,12 +52,16 @@ pub fn entry(base: u64, size: u64, kind: u32) -> [u8; 20] {
 }
 
 pub trait Side {
+    const NAME: &'static str;
+
     fn call(call: Call, block: &mut Block, slip: &mut Slip) -> u32;
 }
 
 pub struct Straight;
 
 impl Side for Straight {
+    const NAME: &'static str = "straightforward";
+
     fn call(call: Call, block: &mut Block, slip: &mut Slip) -> u32 {
         let b = &mut block.0;
         match call {
@@ -80,65 +86,14 @@ impl Side for Straight {
     }
 }
 
-#[rustfmt::skip]
-extern "C" {
-    fn memblock_fresh(block: *mut u8, len: usize) -> u32;
-    fn memblock_set(block: *mut u8, len: usize, limit: u64, direction: u32) -> u32;
-    fn memblock_add(block: *mut u8, len: usize, base: u64, size: u64, flags: u32, node: u32) -> u32;
-    fn memblock_remove(block: *mut u8, len: usize, base: u64, size: u64) -> u32;
-    fn memblock_mark(block: *mut u8, len: usize, base: u64, size: u64) -> u32;
-    fn memblock_unmark(block: *mut u8, len: usize, base: u64, size: u64) -> u32;
-    fn memblock_reserve(block: *mut u8, len: usize, base: u64, size: u64) -> u32;
-    fn memblock_free(block: *mut u8, len: usize, base: u64, size: u64) -> u32;
-    fn memblock_trim(block: *mut u8, len: usize, alignment: u64) -> u32;
-    fn memblock_next_free(block: *const u8, len: usize, from: u64, node: u32,
-        slip: *mut u8, slip_len: usize) -> u32;
-    fn memblock_find(block: *const u8, len: usize, size: u64, alignment: u64, start: u64, end: u64,
-        node: u32, slip: *mut u8, slip_len: usize) -> u32;
-    fn memblock_allocate(block: *mut u8, len: usize, size: u64, alignment: u64, start: u64, end: u64,
-        node: u32, slip: *mut u8, slip_len: usize) -> u32;
-    fn memblock_intake_e820(block: *mut u8, len: usize, report: *const u8, report_len: usize) -> u32;
-}
-
-pub struct Library;
-
-impl Side for Library {
-    fn call(call: Call, block: &mut Block, slip: &mut Slip) -> u32 {
-        let (b, n) = (block.0.as_mut_ptr(), LENGTH);
-        let (s, m) = (slip.as_mut_ptr(), slip.len());
-        // Block and slip are whole, writable and apart: they are two `&mut`. The
-        // report is only read.
-        unsafe {
-            match call {
-                Call::Fresh => memblock_fresh(b, n),
-                Call::Set(limit, direction) => memblock_set(b, n, limit, direction),
-                Call::Add(base, size, flags, node) => memblock_add(b, n, base, size, flags, node),
-                Call::Remove(base, size) => memblock_remove(b, n, base, size),
-                Call::Mark(base, size) => memblock_mark(b, n, base, size),
-                Call::Unmark(base, size) => memblock_unmark(b, n, base, size),
-                Call::Reserve(base, size) => memblock_reserve(b, n, base, size),
-                Call::Free(base, size) => memblock_free(b, n, base, size),
-                Call::Trim(alignment) => memblock_trim(b, n, alignment),
-                Call::NextFree(from, node) => memblock_next_free(b, n, from, node, s, m),
-                Call::Find(size, alignment, start, end, node) => {
-                    memblock_find(b, n, size, alignment, start, end, node, s, m)
-                }
-                Call::Allocate(size, alignment, start, end, node) => {
-                    memblock_allocate(b, n, size, alignment, start, end, node, s, m)
-                }
-                Call::Intake(report) => memblock_intake_e820(b, n, report.as_ptr(), report.len()),
-            }
-        }
-    }
-}
-
-/// Makes one call on both sides, from the same block, and fails unless number,
-/// block and slip end equal. Gives the number; the block is as the call left it.
-pub fn call_both(call: Call, block: &mut Block) -> u32 {
+/// Makes one call of the library and of another side, from the same block, and
+/// fails unless number, block and slip end equal. Gives the number; the block is
+/// as the call left it.
+pub fn call_both<Other: Side>(call: Call, block: &mut Block) -> u32 {
     let mut other = block.clone();
     let (mut slip, mut other_slip) = ([0xa5; 16], [0xa5; 16]);
     let number = Library::call(call, block, &mut slip);
-    let other_number = Straight::call(call, &mut other, &mut other_slip);
+    let other_number = Other::call(call, &mut other, &mut other_slip);
     assert_eq!(number, other_number, "numbers differ: {call:?}");
     assert_eq!(slip, other_slip, "slips differ: {call:?}");
     assert!(*block == other, "blocks differ: {call:?}");

@@ -11,6 +11,7 @@ pub mod Setting
 pub mod Printed
 pub mod Pushing
 pub mod Placing
+pub mod Halving
 pub mod Copying
 pub mod Walking
 pub mod Storing

@@ -1,12 +1,13 @@
 -- Where a range begins among the records: the first records that end at or below an address. Assumes nothing.
-use Prim.Native.Nat.{ℕ, suc, _+_, _*_, _-_, _≤_, _<_}
-use mathlib.Core.Path.{_≡_, refl, _∙_}
+use Prim.Native.Nat.{ℕ, zero, suc, _+_, _*_, _≤_, _<_}
+use mathlib.Core.Path.{_≡_, refl, sym, _∙_}
 use mathlib.Core.Bool.{Bool, true, false, cond}
 use mathlib.Core.List.{List, [], _∷_}
 use native.Mathlib.Omega.{arith}
-use native.Mathlib.Nat.{sub-zero}
+use native.Mathlib.Nat.{not-suc-le-zero, mul-suc}
 use lib.Dec.{leb}
 use lib.ListN.{length, take, drop}
+use lib.Seq.{drop-drop}
 use borrow.Author.Tests.{le-leb, lt-leb, leb-true}
 use Rattle.address.specs.declared.Address.{Address}
 use Rattle.address.specs.declared.CheckedAddress.{CheckedAddress}
@@ -14,50 +15,60 @@ use Rattle.address.specs.declared.CheckedAddress.the-variants.{At, Outside}
 use Rattle.address.specs.Numbers.{address}
 use Rattle.address.proofs.Checked.{address-at, address-outside}
 use Rattle.regions.specs.declared.Region.{Region}
+use Rattle.regions.specs.declared.State.{State}
 use Rattle.regions.specs.Meaning.{end}
 use Rattle.regions.specs.Bytes.{readRegion, readRegions}
-use Rattle.regions.proofs.Rises.{reach}
-use Rattle.regions.proofs.Records.{read-regions-rest, read-regions-end, read-regions-length}
+use Rattle.regions.proofs.Rises.{Rises, done, next, reach}
+use Rattle.regions.proofs.Records.{read-regions-length}
 use Rattle.tables.specs.Steps.{endingBy}
 
--- ---- the walk over the records, i of n passed
+-- ---- a look at one record
 
-pub place-start : (l : List ℕ) (n a : ℕ) → endingBy a (readRegions n l) ≡ 0 + endingBy a (readRegions (n - 0) (drop (24 * 0) l))
-place-start l n a = rw sub-zero (omega arith)
+module _ (s r : Region) (e : r ≡ s) (a : Address) (x : CheckedAddress) (q : x ≡ address (end r)) where
+  pub look-past : x ≡ Outside → a .0 < 18446744073709551616 → false ≡ leb (end s) (a .0)
+  look-past o k = rw (← e) (sym (lt-leb (end r) (a .0) (omega (arith, address-outside (end r) x q o))))
 
-module _ (l : List ℕ) (n : ℕ) (a : Address) (i : ℕ) (inv : endingBy (a .0) (readRegions n l) ≡ i + endingBy (a .0) (readRegions (n - i) (drop (24 * i) l))) where
-  pub place-end : n ≤ i → i ≡ endingBy (a .0) (readRegions n l)
+  pub look-told : (o : Address) → x ≡ At o → leb (o .0) (a .0) ≡ leb (end s) (a .0)
+  look-told o p = rw (address-at (end r) x o q p .0, e)
+
+-- ---- a record and the place
+
+further : (k : ℕ) (l : List ℕ) → drop (24 * k) (drop 24 l) ≡ drop (24 * suc k) l
+further k l =
+    let e : 24 + 24 * k ≡ 24 * suc k = omega (arith, mul-suc 24 k) in
+    drop-drop (24 * k) 24 l ∙ rw e
+
+module _ (a : ℕ) where
+  -- a record that ends above the address is not before the place
+  pub ending-above : (k n : ℕ) (l : List ℕ) → k < n → a < end (readRegion (drop (24 * k) l)) → endingBy a (readRegions n l) ≤ k
+  unfolding endingBy readRegions
+  ending-above k zero l h e = absurd (not-suc-le-zero h)
+  ending-above zero (suc n) l h e = rw (lt-leb (end (readRegion l)) a e) (omega arith)
+  ending-above (suc k) (suc n) l h e = go (leb (end (readRegion l)) a) (ending-above k n (drop 24 l) (omega arith) (rw (further k l) e))
+    where
+      go : (t : Bool) → endingBy a (readRegions n (drop 24 l)) ≤ k → cond t (suc (endingBy a (readRegions n (drop 24 l)))) 0 ≤ suc k
+      go true i = omega arith
+      go false i = omega arith
+
+  -- where the first region ends at or below the address, so does what it begins behind
+  first-low : {c m : ℕ} {v : State} {xs : List Region} → Rises c v m xs → 0 < endingBy a xs → c ≤ a
   unfolding endingBy
-  place-end h =
-      let z : endingBy (a .0) (readRegions (n - i) (drop (24 * i) l)) ≡ 0 = rw (read-regions-end i n (drop (24 * i) l) h) in
-      omega arith
+  first-low (done l) h = absurd (not-suc-le-zero h)
+  first-low {c} (next {r = r} {rs = rs} f w) h = go (leb (end r) a) refl h
+    where
+      go : (t : Bool) → leb (end r) a ≡ t → 0 < cond t (suc (endingBy a rs)) 0 → c ≤ a
+      go true e i = omega (arith, leb-true (end r) a e, f .low)
+      go false e i = absurd (not-suc-le-zero i)
 
-  module _ (r : Region) (h : i < n) (e : r ≡ readRegion (drop (24 * i) l)) where
-    here : (t : Bool) → leb (end r) (a .0) ≡ t
-        → endingBy (a .0) (readRegions n l) ≡ i + cond t (suc (endingBy (a .0) (readRegions (n - (i + 1)) (drop (24 * (i + 1)) l)))) 0
-    unfolding endingBy
-    here t f =
-        let s : readRegions (n - i) (drop (24 * i) l) ≡ r ∷ readRegions (n - (i + 1)) (drop (24 * (i + 1)) l) = rw e (read-regions-rest i n l h) in
-        inv ∙ rw (s, f)
-
-    module _ (x : CheckedAddress) (q : x ≡ address (end r)) where
-      pub place-past : x ≡ Outside → a .0 < 18446744073709551616 → i ≡ endingBy (a .0) (readRegions n l)
-      place-past o k =
-          let f : leb (end r) (a .0) ≡ false = lt-leb (end r) (a .0) (omega (arith, address-outside (end r) x q o)) in
-          omega (arith, here false f)
-
-      module _ (o : Address) (p : x ≡ At o) where
-        pub place-here : a .0 < o .0 → i ≡ endingBy (a .0) (readRegions n l)
-        place-here k =
-            let m = address-at (end r) x o q p in
-            let f : leb (end r) (a .0) ≡ false = lt-leb (end r) (a .0) (omega arith) in
-            omega (arith, here false f)
-
-        pub place-next : o .0 ≤ a .0 → endingBy (a .0) (readRegions n l) ≡ i + 1 + endingBy (a .0) (readRegions (n - (i + 1)) (drop (24 * (i + 1)) l))
-        place-next k =
-            let m = address-at (end r) x o q p in
-            let f : leb (end r) (a .0) ≡ true = le-leb (end r) (a .0) (omega arith) in
-            omega (arith, here true f)
+  -- a record of a shortest list that ends at or below the address is before the place
+  pub ending-past : {c m : ℕ} {v : State} (k n : ℕ) (l : List ℕ) → Rises c v m (readRegions n l) → k < n → end (readRegion (drop (24 * k) l)) ≤ a
+      → k < endingBy a (readRegions n l)
+  unfolding endingBy readRegions
+  ending-past k zero l w h e = absurd (not-suc-le-zero h)
+  ending-past zero (suc n) l w h e = rw (le-leb (end (readRegion l)) a e) (omega arith)
+  ending-past (suc k) (suc n) l (next f w) h e =
+      let i = ending-past k n (drop 24 l) w (omega arith) (rw (further k l) e) in
+      rw (le-leb (end (readRegion l)) a (first-low w (omega arith))) (omega arith)
 
 -- ---- what the place tells
 

@@ -1,5 +1,5 @@
 -- A list of regions built up in a scratch table. Only inner contracts and proofs cite this module. Assumes nothing.
-use Prim.Native.Nat.{ℕ, suc, _*_, _-_, _≤_}
+use Prim.Native.Nat.{ℕ, suc, _+_, _*_, _-_, _^_, _<_, _≤_}
 use mathlib.Core.Path.{_≡_}
 use mathlib.Core.Bool.{true, cond}
 use mathlib.Core.List.{List, [], _∷_}
@@ -35,6 +35,12 @@ pub record Holds (l : List ℕ) (cap : ℕ) (xs : List Region) (a : Pushed) : Ty
 unfoldable pub endingBy : ℕ → List Region → ℕ
 endingBy a [] = 0
 endingBy a (r ∷ rs) = cond (leb (end r) a) (suc (endingBy a rs)) 0
+
+-- how many of n records are looked at when their number is halved at each look: no more than n has binary digits (at most 8 of 128, and one
+-- more for each doubling), and at most one fewer
+pub record Halved (n looks : ℕ) : Type 0 where
+  pub most : (k : ℕ) → n < 2 ^ k → looks ≤ k
+  pub least : n < 2 ^ (looks + 1)
 
 -- each region's flags leave room for one more
 abbrev pub AllLight : List Region → Type 0

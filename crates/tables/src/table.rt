@@ -9,15 +9,16 @@ use regions::bytes::get_region;
 use regions::bytes::get_u64;
 ghost use mathlib.Core.Path.{_≡_};
 ghost use mathlib.Core.List.{_++_};
-ghost use Prim.Native.Nat.{_*_, _-_, _/_, _≤_};
+ghost use Prim.Native.Nat.{_+_, _*_, _-_, _/_, _≤_};
+ghost use lib.Dec.{leb};
 ghost use lib.ListN.{length, take, drop, replicate};
-ghost use Rattle.regions.specs.Bytes.{readRegions, tableBytes};
+ghost use Rattle.regions.specs.Bytes.{readRegion, readRegions, tableBytes};
 ghost use mathlib.Core.Bool.{true};
 ghost use Rattle.regions.specs.declared.State.the-variants.{Absent};
-ghost use Rattle.regions.specs.Meaning.{at, total, top};
+ghost use Rattle.regions.specs.Meaning.{end as endOf, at, total, top};
 ghost use Rattle.regions.specs.Lists.{rises};
 ghost use Rattle.tables.specs.Checks.{zeros, checkedList, checkedTable};
-ghost use Rattle.tables.specs.Steps.{Table, endingBy};
+ghost use Rattle.tables.specs.Steps.{Table, Halved, endingBy};
 
 // What the check of a table answers: its total, or that it is not good.
 pub enum Checked {
@@ -128,23 +129,51 @@ pub fn copy_front(dst: &mut [u8], src: &[u8], m: usize)
     }
 }
 
+// Whether record `i` ends at or below `a`: one look at a record.
+fn ends_by(t: &[u8], i: usize, a: Address) -> bool
+    requires { ⌜ 24 * i + 24 ≤ length (now t) ⌝ }
+    ensures { λ b. ⌜ b ≡ leb (endOf (readRegion (drop (24 * i) (now (t .entry))))) (a .0) ⌝ }
+{
+    let r = get_region(t, 24 * i);
+    let CheckedAddress::At(end) = r.end() else {
+        return false;
+    };
+    end.0 <= a.0
+}
+
+// Where a range begins among the records, and how many of them were looked at.
+pub struct Placed {
+    pub at: usize,
+    pub looks: usize,
+}
+
+// How many of the first records end at or below `a`, by halving.
+pub fn halve(t: &[u8], count: usize, a: Address) -> Placed
+    requires { ⌜ (24 * count ≤ length (now t)) × (rises 0 Absent top (readRegions count (now t)) ≡ true) ⌝ }
+    ensures { λ p. ⌜ (p .at ≡ endingBy (a .0) (readRegions count (now (t .entry)))) × Halved count (p .looks) ⌝ }
+{
+    let mut low = 0;
+    let mut high = count;
+    let mut looks = 0;
+    while low < high {
+        let mid = low + (high - low) / 2;
+        if ends_by(t, mid, a) {
+            low = mid + 1;
+        } else {
+            high = mid;
+        }
+        looks += 1;
+    }
+    Placed { at: low, looks }
+}
+
 // How many of the first records end at or below `a`: where a range that begins at `a` begins among them.
 pub fn place(t: &[u8], count: usize, a: Address) -> usize
     requires { ⌜ Table (now t) count ⌝ }
     ensures { λ r. ⌜ r ≡ endingBy (a .0) (readRegions count (now (t .entry))) ⌝ }
 {
-    let mut i = 0;
-    while i < count {
-        let r = get_region(t, 24 * i);
-        let CheckedAddress::At(end) = r.end() else {
-            return i;
-        };
-        if a.0 < end.0 {
-            return i;
-        }
-        i += 1;
-    }
-    i
+    let p = halve(t, count, a);
+    p.at
 }
 
 // Makes `t`, a whole table, hold the first `n` records of `src`, and zeros behind them.

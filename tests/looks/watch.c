@@ -1,13 +1,16 @@
-/* Which records the step that finds a place reads. Hosted, Linux on x86-64.
+/* How many records a command on a range looks at to find where the range begins. Hosted, Linux on x86-64, over the archive.
  *
- * The table stands on pages that may not be touched. Each access faults: its record is noted, the pages are opened for that one
- * instruction and shut again behind it. So the compiled step's own reads are counted, not what it says of them.
+ * The changed table stands on a page that may not be touched. Each access faults: it is noted, the page is opened for that one
+ * instruction and shut again behind it. So the reads of the compiled functions themselves are counted. A look at a record is a read
+ * of its base; what memcpy and memset move is no look.
  *
- * At every fill from 0 to 128, and at 256, 512 and 1,024, for the addresses before, inside, between and after the records: the place
- * must be right, the records read must be as many as the step counts, and the most of them as many as the fill has binary digits: 8
- * at 128, and one more for each doubling. (No search by comparing can do with fewer: n records have n + 1 places.) A step that goes
- * from record to record is watched beside it, to see that nothing read goes unseen. */
+ * A command looks at each record once to check the block, and at each record from the place on once to put it behind. All
+ * looks beyond these are for the place: at most as many as the number of records has binary digits, 8 at 128. Tried for every command
+ * on a range, at every fill from 0 to 128, for addresses before, inside, between and after the records. Then the same with a walk
+ * from record to record added, as a step that does not halve: that must be seen as too many. */
 #define _GNU_SOURCE
+#include "memblock.h"
+
 #include <signal.h>
 #include <stdint.h>
 #include <stdio.h>
@@ -17,23 +20,30 @@
 #include <ucontext.h>
 #include <unistd.h>
 
+#if defined(__GNUC__) && !defined(__clang__)
+#pragma GCC optimize("no-tree-loop-distribute-patterns")
+#endif
+
+#define PAGE 4096
 #define RECORD 24
-#define MOST 1024
-#define ROOM (RECORD * MOST)
+#define CAPACITY 128
+#define TABLE (RECORD * CAPACITY)
+#define MEMORY_AT 80
+#define TAKEN_AT (MEMORY_AT + TABLE)
 #define TRAP_FLAG 0x100
 
-size_t looks_place(const uint8_t *t, size_t length, size_t count, uint64_t a);
-size_t looks_counted(const uint8_t *t, size_t length, size_t count, uint64_t a);
-
-typedef size_t step(const uint8_t *t, size_t length, size_t count, uint64_t a);
-
-static uint8_t *table;
-static volatile int open_for_one;
-static volatile size_t reads, visits, last;
+static uint8_t *page;
+static volatile int watching, open_for_one;
+static volatile size_t records, looks, reads;
 
 static void shut(void)
 {
-    mprotect(table, ROOM, PROT_NONE);
+    mprotect(page, PAGE, PROT_NONE);
+}
+
+static void open_up(void)
+{
+    mprotect(page, PAGE, PROT_READ | PROT_WRITE);
 }
 
 static void end_with(const char *text)
@@ -42,19 +52,17 @@ static void end_with(const char *text)
     _exit(write(STDERR_FILENO, text, length) == (ssize_t)length ? 1 : 2);
 }
 
-/* An access: to the table, and the first of its instruction, or the test is over. */
 static void on_fault(int signal, siginfo_t *info, void *context)
 {
     (void)signal;
-    size_t at = (size_t)((uintptr_t)info->si_addr - (uintptr_t)table);
-    if (at >= ROOM || open_for_one)
-        end_with("looks: an access outside the table, or a write to it\n");
+    size_t at = (size_t)((uintptr_t)info->si_addr - (uintptr_t)page);
+    if (at >= PAGE || open_for_one || !watching)
+        end_with("looks: an access outside the page\n");
     reads++;
-    if (at / RECORD != last)
-        visits++;
-    last = at / RECORD;
+    if (at % RECORD < 8 && at / RECORD < records)
+        looks++;
     open_for_one = 1;
-    mprotect(table, ROOM, PROT_READ);
+    open_up();
     ((ucontext_t *)context)->uc_mcontext.gregs[REG_EFL] |= TRAP_FLAG;
 }
 
@@ -78,40 +86,82 @@ static void catch(int signal, void (*handler)(int, siginfo_t *, void *))
         end_with("looks: a signal cannot be caught\n");
 }
 
-/* The place that a step gives; `visits` has how many records it read. */
-static size_t watched(step *f, size_t count, uint64_t a)
+/* What the archive moves bytes with: no looks. */
+void *memcpy(void *restrict to, const void *restrict from, size_t length)
 {
-    visits = 0;
-    last = SIZE_MAX;
-    shut();
-    size_t place = f(table, ROOM, count, a);
-    mprotect(table, ROOM, PROT_READ | PROT_WRITE);
-    return place;
+    if (watching)
+        open_up();
+    uint8_t *t = to;
+    const uint8_t *f = from;
+    for (size_t i = 0; i < length; i++)
+        t[i] = f[i];
+    if (watching)
+        shut();
+    return to;
 }
 
-/* From record to record, to be watched beside the step. */
-static size_t one_by_one(const uint8_t *t, size_t length, size_t count, uint64_t a)
+void *memset(void *to, int byte, size_t length)
 {
-    (void)length;
-    for (size_t i = 0; i < count; i++) {
-        uint64_t range[2];
-        memcpy(range, t + RECORD * i, sizeof range);
-        if (a < range[0] + range[1])
-            return i;
-    }
-    return count;
+    if (watching)
+        open_up();
+    uint8_t *t = to;
+    for (size_t i = 0; i < length; i++)
+        t[i] = (uint8_t)byte;
+    if (watching)
+        shut();
+    return to;
 }
 
-/* So that the compiler does not know what it is given. */
-static step *volatile by_itself = one_by_one;
+typedef uint32_t command(uint8_t *block, uint64_t base);
 
-/* Record i has two addresses, origin + 4i + 1 and the next. */
-static void fill(size_t count, uint64_t origin)
+static uint32_t add(uint8_t *block, uint64_t base)
 {
-    for (size_t i = 0; i < count; i++) {
-        uint64_t record[3] = {origin + 4 * i + 1, 2, 0};
-        memcpy(table + RECORD * i, record, sizeof record);
-    }
+    return memblock_add(block, MEMBLOCK_BLOCK_LENGTH, base, 1, 0, 0);
+}
+
+static uint32_t remove_one(uint8_t *block, uint64_t base)
+{
+    return memblock_remove(block, MEMBLOCK_BLOCK_LENGTH, base, 1);
+}
+
+static uint32_t mark(uint8_t *block, uint64_t base)
+{
+    return memblock_mark(block, MEMBLOCK_BLOCK_LENGTH, base, 1);
+}
+
+static uint32_t unmark(uint8_t *block, uint64_t base)
+{
+    return memblock_unmark(block, MEMBLOCK_BLOCK_LENGTH, base, 1);
+}
+
+static uint32_t reserve(uint8_t *block, uint64_t base)
+{
+    return memblock_reserve(block, MEMBLOCK_BLOCK_LENGTH, base, 1);
+}
+
+static uint32_t free_one(uint8_t *block, uint64_t base)
+{
+    return memblock_free(block, MEMBLOCK_BLOCK_LENGTH, base, 1);
+}
+
+static const struct {
+    const char *name;
+    command *call;
+    size_t table;
+} commands[] = {
+    {"add", add, MEMORY_AT},       {"remove", remove_one, MEMORY_AT}, {"mark", mark, MEMORY_AT},
+    {"unmark", unmark, MEMORY_AT}, {"reserve", reserve, TAKEN_AT},    {"free", free_one, TAKEN_AT},
+};
+#define COMMANDS (sizeof commands / sizeof *commands)
+
+/* A step that does not halve, for the same address. */
+static size_t one_by_one(const uint8_t *table, uint64_t a)
+{
+    const volatile uint64_t *fields = (const volatile uint64_t *)table;
+    size_t i = 0;
+    while (i < records && fields[3 * i] + 2 <= a)
+        i++;
+    return i;
 }
 
 static size_t digits(size_t n)
@@ -122,60 +172,84 @@ static size_t digits(size_t n)
     return d;
 }
 
-static void fail(const char *what, size_t count, uint64_t a, size_t got, size_t wanted)
-{
-    fprintf(stderr, "looks: %s among %zu records at address %#jx: %zu, not %zu\n", what, count, (uintmax_t)a, got, wanted);
-    exit(1);
-}
+static size_t calls;
 
-/* One address; answers how many records were read. */
-static size_t looks_at(size_t count, uint64_t a, size_t place)
+/* The looks of one call beyond those that check the block and those from the place on. Record i has the addresses 4i + 1 and 4i + 2, so
+ * the place of an address a is (a + 1) / 4. */
+static size_t looks_for_place(size_t c, const uint8_t *saved, uint8_t *block, uint64_t a, int walk)
 {
-    size_t got = watched(looks_place, count, a);
-    size_t looks = visits;
-    size_t counted = looks_counted(table, ROOM, count, a);
-    if (got != place)
-        fail("the place", count, a, got, place);
-    if (counted != looks)
-        fail("records counted", count, a, counted, looks);
-    return looks;
-}
-
-/* All places of one fill, each by the address under its record, the record's two and the one above; answers how many addresses. */
-static size_t look_at_all(size_t count, uint64_t origin)
-{
-    size_t addresses = 0, most = 0;
-    fill(count, origin);
-    for (uint64_t a = 0; a < 4 * count + 3 && a <= UINT64_MAX - origin; a++, addresses++) {
-        size_t looks = looks_at(count, origin + a, (a + 1) / 4);
-        if (looks > most)
-            most = looks;
+    memcpy(block, saved, MEMBLOCK_BLOCK_LENGTH);
+    looks = 0;
+    watching = 1;
+    shut();
+    uint32_t number = commands[c].call(block, a);
+    if (walk)
+        one_by_one(page, a);
+    open_up();
+    watching = 0;
+    calls++;
+    if (number != MEMBLOCK_DONE && number != MEMBLOCK_TABLE_FULL) {
+        fprintf(stderr, "looks: %s answers %u\n", commands[c].name, number);
+        exit(1);
     }
-    looks_at(count, 0, 0);
-    looks_at(count, UINT64_MAX, count);
-    if (most != digits(count))
-        fail("the most records read", count, origin, most, digits(count));
-    if (watched(by_itself, count, UINT64_MAX) != count || visits != count)
-        fail("records read one by one", count, UINT64_MAX, visits, count);
-    if (origin == 0 && count >= 128)
-        printf("looks: at most %zu of %zu records\n", most, count);
-    return addresses + 2;
+    size_t others = records + (records - (a + 1) / 4);
+    return looks > others ? looks - others : 0;
+}
+
+/* As a fresh block is built by calls: so many records in the command's table, none in the other. */
+static void fill(size_t c, uint8_t *block)
+{
+    uint32_t numbers = memblock_fresh(block, MEMBLOCK_BLOCK_LENGTH);
+    for (size_t i = 0; i < records; i++)
+        numbers |= commands[c].table == MEMORY_AT ? memblock_add(block, MEMBLOCK_BLOCK_LENGTH, 4 * i + 1, 2, 0, 0)
+                                                  : memblock_reserve(block, MEMBLOCK_BLOCK_LENGTH, 4 * i + 1, 2);
+    if (numbers != 0)
+        end_with("looks: a call that fills a table is refused\n");
+}
+
+static size_t most;
+
+static void look(size_t c, const uint8_t *saved, uint8_t *block, uint64_t a)
+{
+    size_t beyond = looks_for_place(c, saved, block, a, 0);
+    if (beyond > most)
+        most = beyond;
+    if (beyond > digits(records)) {
+        fprintf(stderr, "looks: %s at address %ju looks at %zu of %zu records\n", commands[c].name, (uintmax_t)a, beyond, records);
+        exit(1);
+    }
 }
 
 int main(void)
 {
-    table = mmap(NULL, ROOM, PROT_READ | PROT_WRITE, MAP_PRIVATE | MAP_ANONYMOUS, -1, 0);
-    if (table == MAP_FAILED)
+    uint8_t *pages = mmap(NULL, 4 * PAGE, PROT_READ | PROT_WRITE, MAP_PRIVATE | MAP_ANONYMOUS, -1, 0);
+    if (pages == MAP_FAILED)
         end_with("looks: no memory\n");
+    page = pages + PAGE;
     catch(SIGSEGV, on_fault);
     catch(SIGTRAP, on_trap);
-    size_t addresses = 0;
-    for (size_t count = 0; count <= MOST; count++)
-        if (count <= 128 || count == 256 || count == 512 || count == MOST)
-            addresses += look_at_all(count, 0);
-    /* The last record ends at the top. */
-    for (size_t count = 1; count <= 128; count++)
-        addresses += look_at_all(count, UINT64_MAX - (4 * count - 1));
-    printf("looks: every fill from 0 to 128, %zu addresses, %zu reads watched\n", addresses, reads);
+    static uint8_t saved[MEMBLOCK_BLOCK_LENGTH];
+    for (size_t c = 0; c < COMMANDS; c++) {
+        uint8_t *block = page - commands[c].table;
+        for (records = 0; records <= CAPACITY; records++) {
+            fill(c, saved);
+            uint64_t middle = 4 * (records / 2);
+            look(c, saved, block, 0);
+            look(c, saved, block, middle);
+            look(c, saved, block, middle + 1);
+            look(c, saved, block, 4 * records);
+        }
+        records = CAPACITY;
+        fill(c, saved);
+        most = 0;
+        for (uint64_t a = 0; a < 4 * CAPACITY + 3; a += c < COMMANDS - 2 ? 4 : 1)
+            look(c, saved, block, a);
+        printf("looks: %s: at most %zu of %u records\n", commands[c].name, most, CAPACITY);
+        if (most != digits(CAPACITY))
+            end_with("looks: the most is not reached\n");
+        if (looks_for_place(c, saved, block, 4 * CAPACITY, 1) <= digits(CAPACITY))
+            end_with("looks: a walk from record to record is not seen\n");
+    }
+    printf("looks: %zu calls at every fill from 0 to %u, %zu reads and writes watched\n", calls, CAPACITY, reads);
     return 0;
 }

@@ -142,13 +142,13 @@ fn ends_by(t: &[u8], i: usize, a: Address) -> bool
 }
 
 // Where a range begins among the records, and how many of them were looked at.
-pub struct Placed {
-    pub at: usize,
-    pub looks: usize,
+struct Placed {
+    at: usize,
+    looks: usize,
 }
 
 // How many of the first records end at or below `a`, by halving.
-pub fn halve(t: &[u8], count: usize, a: Address) -> Placed
+fn halve(t: &[u8], count: usize, a: Address) -> Placed
     requires { ⌜ (24 * count ≤ length (now t)) × (rises 0 Absent top (readRegions count (now t)) ≡ true) ⌝ }
     ensures { λ p. ⌜ (p .at ≡ endingBy (a .0) (readRegions count (now (t .entry)))) × Halved count (p .looks) ⌝ }
 {

@@ -33,7 +33,7 @@ extern "C" {
 #define MEMBLOCK_BAD_TAG 2       /* add: flags not 0 or 4, or node above 63; searches: node above 63 and not any */
 #define MEMBLOCK_BAD_ALIGNMENT 3 /* not a power of two */
 #define MEMBLOCK_SIZE_ZERO 4     /* find, allocate */
-#define MEMBLOCK_NO_ADDRESS 5    /* no eligible or free address */
+#define MEMBLOCK_NO_ADDRESS 5    /* no eligible address that ends by the limit; next free: no free address */
 #define MEMBLOCK_TABLE_FULL 6    /* the changed table's finished shortest list has more than MEMBLOCK_CAPACITY records */
 #define MEMBLOCK_BAD_DIRECTION 7 /* set: above 1 */
 #define MEMBLOCK_BAD_SLIP 8      /* the slip is not MEMBLOCK_SLIP_LENGTH bytes */
@@ -122,7 +122,8 @@ extern "C" {
 /* Writes a fresh block over any MEMBLOCK_BLOCK_LENGTH bytes: both tables empty, no limit, top-down. Answers 0 or 1. */
 uint32_t memblock_fresh(uint8_t *block, size_t length);
 
-/* Stores a limit (where a search with end 0 ends) and a direction. Answers 0, 1 or 7. */
+/* Stores a limit and a direction. Find and allocate give no range that ends above the limit, so none at all where it is
+ * MEMBLOCK_LOWEST_START or lower; next free takes no notice of it. Answers 0, 1 or 7. */
 uint32_t memblock_set(uint8_t *block, size_t length, uint64_t limit, uint32_t direction);
 
 /* Commands on the range from base up to, not including, base + size, cut at MEMBLOCK_TOP. A size of 0 changes nothing.
@@ -152,8 +153,8 @@ uint32_t memblock_trim(uint8_t *block, size_t length, uint64_t alignment);
 uint32_t memblock_next_free(const uint8_t *block, size_t length, uint64_t from, uint32_t node, uint8_t *slip, size_t slip_length);
 
 /* Slip: the lowest (bottom-up) or highest (top-down) multiple a of alignment with start <= a and a + size <= end whose size
- * addresses lie in one free run of the node, and a + size. End 0 is the block's limit; an end above the limit is taken as given;
- * start is raised to MEMBLOCK_LOWEST_START, end to start. Answers 0, 8, 1, 2, 3, 4 or 5. */
+ * addresses lie in one free run of the node, and a + size. End 0 is the block's limit, and an end above the limit is cut to it;
+ * start is raised to MEMBLOCK_LOWEST_START, then end to start. Answers 0, 8, 1, 2, 3, 4 or 5. */
 uint32_t memblock_find(const uint8_t *block, size_t length, uint64_t size, uint64_t alignment, uint64_t start, uint64_t end,
                        uint32_t node, uint8_t *slip, size_t slip_length);
 

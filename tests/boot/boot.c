@@ -547,9 +547,13 @@ static void full_memory(struct lent *lent)
     intake(lent, MEMBLOCK_REPORT_ENTRY_LENGTH);
     MARK(lent, base + PAGE, 16);
     UNMARK(lent, base + 3 * PAGE, 16);
-    /* A named end above the limit is taken as given. */
-    allocate(lent, PAGE, PAGE, base, GIB(4096), 5);
+    /* A named end is cut to the limit, which is below this memory; next free knows no limit. */
+    allocate(lent, PAGE, PAGE, 0, GIB(4096), 5);
+    next_free(lent, 0, 5, MEMBLOCK_SLIP_LENGTH);
+    set(lent, GIB(4096), MEMBLOCK_BOTTOM_UP);
+    allocate(lent, PAGE, PAGE, 0, GIB(4096), 5);
     FREE(lent, slip_base(), PAGE);
+    set(lent, GIB(4), MEMBLOCK_BOTTOM_UP);
     free_runs(lent, 2);
     trim(lent, 2 * PAGE);
     REMOVE(lent, base, MEMBLOCK_CAPACITY * 2 * PAGE);
@@ -571,7 +575,12 @@ static void at_the_top(struct lent *lent)
     add(lent, UINT64_C(0) - PAGE, 2 * PAGE, 0, 1);
     add(lent, MEMBLOCK_TOP, 1, 0, 1);
     find(lent, PAGE - 1, 1, 0, MEMBLOCK_TOP, 1);
+    set(lent, MEMBLOCK_NO_LIMIT, MEMBLOCK_BOTTOM_UP);
+    find(lent, PAGE - 1, 1, 0, MEMBLOCK_TOP, 1);
     find(lent, PAGE, 1, 0, MEMBLOCK_TOP, 1);
+    set(lent, MEMBLOCK_NO_LIMIT - 1, MEMBLOCK_TOP_DOWN);
+    find(lent, PAGE - 1, 1, 0, MEMBLOCK_TOP, 1);
+    find(lent, PAGE - 2, 1, 0, MEMBLOCK_TOP, 1);
     next_free(lent, 0, 1, MEMBLOCK_SLIP_LENGTH);
     REMOVE(lent, UINT64_C(0) - PAGE, MEMBLOCK_TOP);
 }

@@ -212,7 +212,10 @@ fn look<B: AsRef<[u8]>>(
     if size == 0 {
         return Err(SIZE_ZERO);
     }
-    let end = if end == 0 { block.limit() } else { end };
+    let end = match end {
+        0 => block.limit(),
+        named => named.min(block.limit()),
+    };
     let start = start.max(4096);
     let wish = Wish {
         size,

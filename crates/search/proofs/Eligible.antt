@@ -101,15 +101,33 @@ module _ (f : Meaning) (node size a : ℕ) (pos : 0 < size) where
 
 -- ---- find
 
+-- an address is eligible exactly when it is aligned, and lies in the window and in a run
+pub record Lies (q : Query) (runs : List Region) (a : ℕ) : Type 0 where
+  pub aligned : a % q .align .0 ≡ 0
+  pub start : q .start .0 ≤ a
+  pub end : a + q .size .0 ≤ q .end .0
+  pub run : inOne (q .node) (q .size .0) a runs ≡ true
+
+pub eligible-lies : (q : Query) (runs : List Region) (a : ℕ) → eligible q runs a ≡ true → Lies q runs a
+unfolding eligible
+eligible-lies q runs a e =
+    let w : Bool = leb (q .start .0) a && leb (a + q .size .0) (q .end .0) in
+    let p = both (eqb (a % q .align .0) 0) (w && inOne (q .node) (q .size .0) a runs) e in
+    let r = both w (inOne (q .node) (q .size .0) a runs) (p .1) in
+    let t = both (leb (q .start .0) a) (leb (a + q .size .0) (q .end .0)) (r .0) in
+    record { aligned = eqb-true (a % q .align .0) 0 (p .0); start = leb-true (q .start .0) a (t .0); end = leb-true (a + q .size .0) (q .end .0) (t .1); run = r .1 }
+
+pub lies-eligible : (q : Query) (runs : List Region) (a : ℕ) → Lies q runs a → eligible q runs a ≡ true
+unfolding eligible
+lies-eligible q runs a l =
+    and (eq-eqb (a % q .align .0) 0 (l .aligned))
+    (and (and (le-leb (q .start .0) a (l .start)) (le-leb (a + q .size .0) (q .end .0) (l .end))) (l .run))
+
 -- what is eligible ends at the top or below, so a search below the top looks at all that is
 pub eligible-below : (q : Query) (s : Contents) (a : ℕ) → 0 < q .size .0 → eligible q (runsOf s) a ≡ true → a + q .size .0 ≤ top
-unfolding eligible freeRuns
+unfolding freeRuns
 eligible-below q s a h e =
-    let w : Bool = leb (q .start .0) a && leb (a + q .size .0) (q .end .0) in
-    let p = both (eqb (a % q .align .0) 0) (w && inOne (q .node) (q .size .0) a (runsOf s)) e in
-    let r = both w (inOne (q .node) (q .size .0) a (runsOf s)) (p .1) in
-    let o = one-run-in (free (at (s .memory)) (at (s .taken))) (q .node) (q .size .0) a h (r .1) in
-    o .0
+    one-run-in (free (at (s .memory)) (at (s .taken))) (q .node) (q .size .0) a h (eligible-lies q (runsOf s) a e .run) .0
 
 -- bottom-up, find gives the lowest eligible address, and none exactly when there is none
 pub found-lowest : (s : Contents) (q : Query) → s .direction ≡ 1 → Gives (eligible (window (s .limit) q) (runsOf s)) (λ b a. b < a) top (found s q)

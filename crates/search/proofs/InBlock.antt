@@ -1,5 +1,5 @@
 -- Whole blocks: a good block's two parts can be searched, and what is found in them is what the definitions say of the block. Assumes nothing.
-use Prim.Native.Nat.{ℕ, _+_, _*_, _-_, _≤_, _<_, max}
+use Prim.Native.Nat.{ℕ, _+_, _*_, _-_, _≤_, _<_, min, max}
 use mathlib.Core.Path.{_≡_, refl, sym, ap, _∙_}
 use mathlib.Core.Bool.{Bool, true, false, _&&_}
 use mathlib.Core.List.{List}
@@ -26,7 +26,7 @@ use Rattle.search.specs.declared.fit.Found.{Found}
 use Rattle.search.specs.declared.fit.Found.the-variants.{At, Nothing}
 use Rattle.search.specs.declared.fit.Place.{Place}
 use Rattle.search.specs.declared.fit.Place.the-variants.{Here, Nowhere}
-use Rattle.search.specs.Search.{lowest, eligible, inOne, window, windowEnd, runsOf, runEnd, found, freeFrom, lowestFree}
+use Rattle.search.specs.Search.{lowest, eligible, inOne, boundedEnd, window, windowEnd, runsOf, runEnd, found, freeFrom, lowestFree}
 use Rattle.search.specs.Steps.{foundOf, hitOf, placeOf, Searchable, lowestIn, highestIn, Ready, partsOf, lowestOf, highestOf, nextQuery, nextHit}
 use Rattle.search.proofs.Stretches.{lowest-agree}
 
@@ -35,16 +35,18 @@ use Rattle.search.proofs.Stretches.{lowest-agree}
 abbrev between : Query → Address → Address → Query
 between q start end = record { size = q .size; align = q .align; start = start; end = end; node = q .node }
 
-module _ (limit : Address) (q : Query) (start end : Address) (s : start .0 ≡ max (q .start .0) 4096) where
-  pub window-limit : q .end .0 ≡ 0 → end .0 ≡ max (limit .0) (start .0) → between q start end ≡ window (limit .0) q
-  window-limit z e =
-      let f : end .0 ≡ windowEnd (limit .0) (q .start .0) (q .end .0) = rw (eq-eqb (q .end .0) 0 z) (omega arith) in
-      λ i. between q (record { 0 = s i }) (record { 0 = f i })
+module _ (limit end : ℕ) where
+  pub bounded-limit : end ≡ 0 → limit ≡ boundedEnd limit end
+  bounded-limit z = rw (eq-eqb end 0 z)
 
-  pub window-named : (q .end .0 ≡ 0 → ⊥) → end .0 ≡ max (q .end .0) (start .0) → between q start end ≡ window (limit .0) q
-  window-named z e =
-      let f : end .0 ≡ windowEnd (limit .0) (q .start .0) (q .end .0) = rw (ne-eqb (q .end .0) 0 z) (omega arith) in
-      λ i. between q (record { 0 = s i }) (record { 0 = f i })
+  pub bounded-named : (end ≡ 0 → ⊥) → (e : ℕ) → e ≡ min end limit → e ≡ boundedEnd limit end
+  bounded-named z e h = rw (ne-eqb end 0 z) h
+
+pub window-is : (limit : Address) (q : Query) (start bound end : Address) → start .0 ≡ max (q .start .0) 4096 → bound .0 ≡ boundedEnd (limit .0) (q .end .0)
+    → end .0 ≡ max (bound .0) (start .0) → between q start end ≡ window (limit .0) q
+window-is limit q start bound end s b e =
+    let f : end .0 ≡ windowEnd (limit .0) (q .start .0) (q .end .0) = rw (← b, ← s) e in
+    λ i. between q (record { 0 = s i }) (record { 0 = f i })
 
 -- ---- the parts of a good block
 

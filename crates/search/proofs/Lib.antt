@@ -1,5 +1,6 @@
 pub mod Extremes
 pub mod Eligible
+pub mod Limit
 pub mod Stretches
 pub mod Fits
 pub mod Runs

@@ -1,5 +1,5 @@
 -- Which addresses a search may give, and which of them it gives. Assumes nothing.
-use Prim.Native.Nat.{ℕ, zero, suc, _+_, _%_, max}
+use Prim.Native.Nat.{ℕ, zero, suc, _+_, _%_, min, max}
 use mathlib.Core.Bool.{Bool, false, cond, _&&_, _||_}
 use mathlib.Core.List.{List, [], _∷_}
 use mathlib.Core.Option.{Option, none, some}
@@ -51,12 +51,16 @@ eligible q runs a =
 
 -- ---- find
 
--- document 01's window: an end of 0 means the limit, start is raised to at least 4096, then end to at least start
+-- the limit binds (E3): a named end becomes the smaller of itself and the limit; an end of 0 means the limit
+abbrev pub boundedEnd : ℕ → ℕ → ℕ
+boundedEnd limit end = cond (eqb end 0) limit (min end limit)
+
+-- document 01's window: start is raised to at least 4096, then end, bounded, to at least start
 abbrev pub windowStart : ℕ → ℕ
 windowStart start = max start 4096
 
 abbrev pub windowEnd : ℕ → ℕ → ℕ → ℕ
-windowEnd limit start end = max (cond (eqb end 0) limit end) (windowStart start)
+windowEnd limit start end = max (boundedEnd limit end) (windowStart start)
 
 abbrev pub window : ℕ → Query → Query
 window limit q =

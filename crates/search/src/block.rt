@@ -13,10 +13,20 @@ ghost use mathlib.Core.Bool.{true};
 ghost use Prim.Native.Nat.{_≤_};
 ghost use lib.ListN.{length};
 ghost use Rattle.tables.specs.Block.{current, contents, good};
-ghost use Rattle.search.specs.Search.{window as windowOf, found};
+ghost use Rattle.search.specs.Search.{boundedEnd, window as windowOf, found};
 ghost use Rattle.search.specs.Steps.{foundOf, placeOf, Ready, partsOf, lowestOf, highestOf, nextQuery, nextHit};
 
-// What is searched in a block with this limit: an end of 0 means the limit, start is raised to at least 4096, then end to at least start.
+// Where a search with this end ends in a block with this limit: 0 means the limit, and a named end is cut to it.
+fn bounded_end(limit: Address, end: Address) -> Address
+    ensures { λ r. ⌜ r .0 ≡ boundedEnd (limit .0) (end .0) ⌝ }
+{
+    if end.0 == 0 {
+        return limit;
+    }
+    end.min(limit)
+}
+
+// What is searched in a block with this limit: start is raised to at least 4096, then the bounded end to at least start.
 fn window(limit: Address, q: Query) -> Query
     ensures { λ r. ⌜ r ≡ windowOf (limit .0) q ⌝ }
 {
@@ -25,17 +35,8 @@ fn window(limit: Address, q: Query) -> Query
     let first = q.start;
     let last = q.end;
     let start = first.max(Address(4096));
-    if last.0 == 0 {
-        let end = limit.max(start);
-        return Query {
-            size,
-            align,
-            start,
-            end,
-            node: q.node,
-        };
-    }
-    let end = last.max(start);
+    let bound = bounded_end(limit, last);
+    let end = bound.max(start);
     Query {
         size,
         align,

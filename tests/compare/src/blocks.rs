@@ -232,13 +232,13 @@ fn some_taken(rng: &mut Rng, count: usize, memory: &[Rec]) -> Vec<Rec> {
 pub fn good(rng: &mut Rng, memory: usize, taken: usize) -> Draft {
     let memory = some_memory(rng, memory);
     let taken = some_taken(rng, taken, &memory);
-    let limit = match rng.below(6) {
+    let limit = match rng.below(8) {
         0 => rng.any_size(),
-        1 if !memory.is_empty() => {
+        1..=3 if !memory.is_empty() => {
             let rec = rng.pick(&memory);
             rec.base.wrapping_add(rng.below(rec.size).wrapping_add(1))
         }
-        2 => rng.pick(&[0, 1, 4095, 4096, 4097, 1 << 63]),
+        4 => rng.pick(&[0, 1, 4095, 4096, 4097, 1 << 63]),
         _ => u64::MAX,
     };
     Draft {

@@ -1,5 +1,5 @@
-//! The twelve cases of document 01 and those of request E1, run through the
-//! archive.
+//! The twelve cases of document 01 and those of requests E1 and E3, run through
+//! the archive.
 
 use crate::blocks::{get_u64, read_recs};
 use crate::call::{Call, Command};
@@ -77,8 +77,23 @@ impl Case<'_> {
     }
 
     fn turn(&mut self, direction: u32) {
-        let limit = u64::MAX;
+        self.limit(u64::MAX, direction);
+    }
+
+    fn limit(&mut self, limit: u64, direction: u32) {
         self.does(Call::Set { limit, direction }, 0);
+    }
+
+    /// Find and allocate, on the same block, in both directions.
+    fn within(&mut self, limit: u64, wish: Wish, bottom_up: Answer, top_down: Answer) {
+        for (direction, wanted) in [(BOTTOM_UP, bottom_up), (TOP_DOWN, top_down)] {
+            self.limit(limit, direction);
+            let before = self.block.clone();
+            let wanted = wanted.map(|a| (a, a + wish.size));
+            self.asks(Call::Find(wish), wanted);
+            self.asks(Call::Allocate(wish), wanted);
+            self.block = before;
+        }
     }
 
     /// A call with a slip: its two numbers, or the refusal.
@@ -131,6 +146,8 @@ impl Case<'_> {
     }
 }
 
+type Answer = Result<u64, u32>;
+
 fn wish(size: u64, alignment: u64) -> Wish {
     Wish {
         size,
@@ -142,7 +159,7 @@ fn wish(size: u64, alignment: u64) -> Wish {
 }
 
 pub fn run(desk: &mut Desk) -> u32 {
-    let cases: [fn(&mut Desk); 19] = [
+    let cases: [fn(&mut Desk); 24] = [
         printed,
         one,
         two_and_three,
@@ -162,6 +179,11 @@ pub fn run(desk: &mut Desk) -> u32 {
         report_at_the_top,
         report_over_what_is_there,
         report_in_two_orders,
+        limit_and_named_end,
+        limit_and_lowest_start,
+        limit_and_start,
+        limit_and_allocations,
+        limit_and_next_free,
     ];
     for (turn, case) in cases.iter().enumerate() {
         desk.turn = turn as u64;
@@ -459,4 +481,90 @@ fn report_in_two_orders(desk: &mut Desk) {
     let mut c = Case::new(desk);
     c.intake(&[pieces[2], pieces[0], pieces[1]], 0);
     c.expect("block", c.block.clone(), end);
+}
+
+/// A named end below, at and above the limit.
+fn limit_and_named_end(desk: &mut Desk) {
+    let limit = 0x18000;
+    let mut c = m(desk);
+    let named = |size, end| Wish {
+        end,
+        ..wish(size, 1)
+    };
+    c.within(limit, named(0x1000, 0x17FFF), Ok(0x10000), Ok(0x16FFF));
+    c.within(limit, named(0x8000, 0x17FFF), Err(5), Err(5));
+    for end in [0, limit, limit + 1, 0x20000, u64::MAX] {
+        c.within(limit, named(0x1000, end), Ok(0x10000), Ok(0x17000));
+        c.within(limit, named(0x8000, end), Ok(0x10000), Ok(0x10000));
+        c.within(limit, named(0x8001, end), Err(5), Err(5));
+    }
+    // Where there is no limit the end is as named.
+    c.within(u64::MAX, named(0x1000, 0x20000), Ok(0x10000), Ok(0x1F000));
+}
+
+/// A limit of 0, below 4096, and on both sides of the lowest start.
+fn limit_and_lowest_start(desk: &mut Desk) {
+    let mut c = Case::new(desk);
+    c.add(0, 0x20000, 0);
+    for end in [0, 1, 4095, 4096, 4097, u64::MAX] {
+        let named = Wish { end, ..wish(1, 1) };
+        for limit in [0, 1, 4095, 4096] {
+            c.within(limit, named, Err(5), Err(5));
+        }
+        let wanted = match end {
+            0 | 4097.. => Ok(4096),
+            _ => Err(5),
+        };
+        c.within(4097, named, wanted, wanted);
+        c.within(4097, Wish { size: 2, ..named }, Err(5), Err(5));
+    }
+}
+
+/// A start below, at and above the limit.
+fn limit_and_start(desk: &mut Desk) {
+    let limit = 0x18000;
+    let mut c = m(desk);
+    for end in [0, limit, limit + 1, 0x1C000, u64::MAX] {
+        let from = |start| Wish {
+            start,
+            end,
+            ..wish(1, 1)
+        };
+        let last = limit - 1;
+        c.within(limit, from(last), Ok(last), Ok(last));
+        let two = Wish {
+            size: 2,
+            ..from(last)
+        };
+        c.within(limit, two, Err(5), Err(5));
+        for start in [limit, limit + 1, 0x1BFFF, u64::MAX] {
+            c.within(limit, from(start), Err(5), Err(5));
+        }
+    }
+}
+
+/// Memory above the limit is not given, however often it is asked for.
+fn limit_and_allocations(desk: &mut Desk) {
+    let mut c = m(desk);
+    c.limit(0x12000, TOP_DOWN);
+    let page = Call::Allocate(Wish {
+        end: 0x20000,
+        ..wish(0x1000, 0x1000)
+    });
+    for wanted in [Ok((0x11000, 0x12000)), Ok((0x10000, 0x11000)), Err(5)] {
+        c.asks(page.clone(), wanted);
+    }
+    c.table(&TAKEN, &[(0x10000, 0x2000, 0, 0)]);
+    c.limit(0x13000, TOP_DOWN);
+    c.asks(page, Ok((0x12000, 0x13000)));
+}
+
+/// Next free takes no notice of the limit.
+fn limit_and_next_free(desk: &mut Desk) {
+    let mut c = m(desk);
+    for limit in [0, 0x10000, 0x18000, u64::MAX] {
+        c.limit(limit, TOP_DOWN);
+        c.next_free(0, Ok((0x10000, 0x20000)));
+        c.next_free(0x19000, Ok((0x19000, 0x20000)));
+    }
 }

@@ -3,6 +3,7 @@
 
 use crate::blocks::{get_u32, get_u64, read_recs};
 use crate::call::{Call, Command};
+use crate::limits::Sides;
 use model::layout::{MEMORY, REPORT_ENTRY_LEN, TAKEN};
 use std::sync::atomic::{AtomicU64, Ordering};
 use std::sync::Mutex;
@@ -144,6 +145,7 @@ pub struct Desk {
     /// lists and cases are left. Used to show that these can fail too.
     pub without_model: bool,
     pairs: [[u64; NUMBERS]; Command::ALL.len()],
+    pub sides: Sides,
     block_room: Lent,
     slip_room: Lent,
     report_room: Lent,
@@ -158,6 +160,7 @@ impl Desk {
             calls: 0,
             without_model: false,
             pairs: [[0; NUMBERS]; Command::ALL.len()],
+            sides: Sides::default(),
             block_room: Lent::new(),
             slip_room: Lent::new(),
             report_room: Lent::new(),
@@ -246,6 +249,7 @@ impl Desk {
             std::process::exit(1);
         }
         self.pairs[command as usize][got as usize] += 1;
+        self.sides.note(call, &before, got, slip);
         got
     }
 

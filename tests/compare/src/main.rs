@@ -6,6 +6,7 @@ mod blocks;
 mod call;
 mod cases;
 mod desk;
+mod limits;
 mod lists;
 mod numbers;
 mod orders;
@@ -120,7 +121,7 @@ fn main() {
             "cases" => {
                 let cases = cases::run(desk);
                 println!(
-                    "cases: all {cases} of document 01 and those of request E1, {} calls",
+                    "cases: all {cases} of document 01 and those of requests E1 and E3, {} calls",
                     desk.calls
                 );
             }
@@ -147,6 +148,7 @@ fn main() {
         return;
     }
     numbers_reached(desk);
+    limit_met(desk);
     println!("compare: {} calls, all equal", desk.calls);
 }
 
@@ -178,6 +180,17 @@ fn numbers_reached(desk: &Desk) {
         pairs.len(),
         command.name()
     );
+}
+
+/// Searches on every side of the limit were made.
+fn limit_met(desk: &Desk) {
+    if !Command::Find.is_there() || !Command::Allocate.is_there() {
+        return;
+    }
+    match desk.sides.told() {
+        Ok(counts) => println!("limit: {counts}"),
+        Err(message) => stop(&message),
+    }
 }
 
 fn stop(message: &str) -> ! {

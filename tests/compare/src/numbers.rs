@@ -1,6 +1,6 @@
 //! Numbers for calls, most of them near something the block holds.
 
-use crate::blocks::read_recs;
+use crate::blocks::{get_u64, read_recs};
 use crate::call::{Call, Command};
 use crate::reports;
 use crate::rng::Rng;
@@ -30,6 +30,7 @@ const SPECIAL: [u64; 18] = [
 
 /// What is known of the block that the next call gets.
 pub struct Near {
+    limit: u64,
     edges: Vec<u64>,
     runs: Vec<Run>,
     nodes: Vec<u32>,
@@ -49,7 +50,16 @@ impl Near {
             }
         }
         let runs = Board::read(block).map_or(Vec::new(), |board| board.free_runs());
-        Near { edges, runs, nodes }
+        let limit = match block.len() {
+            BLOCK_LEN => get_u64(block, LIMIT_AT),
+            _ => u64::MAX,
+        };
+        Near {
+            limit,
+            edges,
+            runs,
+            nodes,
+        }
     }
 
     /// An address: an edge or one beside it, a special number, or any.
@@ -73,6 +83,11 @@ impl Near {
             16 | 17 => rng.pick(&SPECIAL),
             _ => rng.any_size(),
         }
+    }
+
+    /// The limit or an address beside it.
+    fn at_the_limit(&self, rng: &mut Rng) -> u64 {
+        self.limit.wrapping_add(rng.below(3)).wrapping_sub(1)
     }
 
     /// A base and a size for a table command.
@@ -181,15 +196,17 @@ impl Near {
                 _ => rng.any_size().max(1),
             }
         };
-        let start = match rng.below(10) {
-            0..=5 => 0,
-            6 => rng.pick(&[4095, 4096, 4097]),
+        let start = match rng.below(12) {
+            0..=6 => 0,
+            7 => rng.pick(&[4095, 4096, 4097]),
+            8 => self.at_the_limit(rng),
             _ => self.address(rng),
         };
-        let end = match rng.below(10) {
+        let end = match rng.below(12) {
             0..=4 => 0,
             5 => u64::MAX,
-            6 => start
+            6 | 7 => self.at_the_limit(rng),
+            8 => start
                 .wrapping_add(size)
                 .wrapping_add(rng.below(3))
                 .wrapping_sub(1),

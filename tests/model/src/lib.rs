@@ -1,6 +1,6 @@
-//! A second program for the memory tables of document 01 and the E820 intake of
-//! request E1, written from those pages alone, to be compared with the library
-//! call by call.
+//! A second program for the memory tables of document 01, the E820 intake of
+//! request E1 and the limit of request E3, written from those pages alone, to be
+//! compared with the library call by call.
 //!
 //! It shares no idea with a program that walks tables of records: a table is a
 //! map from boundary points to states, a search looks at whole free runs and
@@ -155,9 +155,10 @@ fn place(board: &Board, wish: &Wish) -> Result<(u128, u128), u32> {
         return Err(SIZE_ZERO);
     }
     let size = u128::from(wish.size);
+    // The limit binds: a named end above it is cut to it.
     let end = match wish.end {
         0 => board.limit,
-        named => named,
+        named => named.min(board.limit),
     };
     let start = u128::from(wish.start).max(LOWEST_START);
     let end = u128::from(end).max(start);

@@ -134,15 +134,16 @@ impl Toy {
     }
 
     fn eligible(&self, a: u128, wish: &Wish) -> bool {
-        let start = wish.start.max(4096);
-        let end = if wish.end == 0 { self.limit } else { wish.end }.max(start);
         let size = u128::from(wish.size);
         let Some(tag) = self.free_tag(a) else {
             return false;
         };
         a.is_multiple_of(wish.alignment.into())
-            && a >= start.into()
-            && a + size <= end.into()
+            && a >= wish.start.max(4096).into()
+            // No size is 0, so an end raised to the start leaves no more than
+            // one below it.
+            && a + size <= self.limit.into()
+            && (wish.end == 0 || a + size <= wish.end.into())
             && (wish.node == ANY || wish.node == tag.1)
             && size <= WINDOW as u128
             && (a..a + size).all(|x| self.free_tag(x) == Some(tag))
@@ -587,6 +588,62 @@ fn every_small_search() {
         }
     }
     assert_eq!(searches, 7usize.pow(5) * 60);
+}
+
+/// All memory over five addresses around 4096, with every limit, start and end
+/// on both sides of each of them.
+#[test]
+fn every_small_limit() {
+    const WIDE: usize = 5;
+    const FIRST: u64 = 4096 - 1;
+    let edges: Vec<u64> = [0, 1, u64::MAX]
+        .into_iter()
+        .chain(FIRST - 1..=FIRST + WIDE as u64 + 1)
+        .collect();
+    let mut searches = 0;
+    // Named ends above the limit at which some address would fit without it.
+    let mut cut = 0;
+    for memory in 0..1 << WIDE {
+        let mut toy = Toy::new(FIRST.into(), WIDE);
+        for i in 0..WIDE {
+            toy.memory[i] = (memory >> i & 1 == 1).then_some((0, 0));
+        }
+        for direction in [0, 1] {
+            for &limit in &edges {
+                toy.direction = direction;
+                toy.limit = limit;
+                let block = toy.block().unwrap();
+                let mut unlimited = toy.clone();
+                unlimited.limit = u64::MAX;
+                for &start in &edges {
+                    for &end in &edges {
+                        for size in 1..=3 {
+                            let wish = Wish {
+                                size,
+                                alignment: 1,
+                                start,
+                                end,
+                                node: ANY,
+                            };
+                            let (number, slip_wanted) = slip_of(toy.find(&wish));
+                            let mut slip = [9; 16];
+                            assert_eq!(model::find(&block, &wish, &mut slip), number);
+                            assert_eq!(slip[..], slip_wanted[..]);
+                            searches += 1;
+                            if end > limit && toy.find(&wish) != unlimited.find(&wish) {
+                                cut += 1;
+                            }
+                        }
+                    }
+                }
+            }
+        }
+    }
+    assert_eq!(searches, 32 * 2 * 11usize.pow(3) * 3);
+    assert!(
+        cut > searches / 20,
+        "the limit cut only {cut} of {searches}"
+    );
 }
 
 /// The places of a toy for intakes.

@@ -1,6 +1,7 @@
 //! Document 01's own examples: the printed block, the twelve cases, the table
 //! of numbers on both sides, and the slips already paid for. Then the E820
-//! intake of request E1, each rule on both sides of its edge.
+//! intake of request E1 and the limit of request E3, each rule on both sides of
+//! its edge.
 
 use model::layout::*;
 use model::Wish;
@@ -550,21 +551,6 @@ fn number_5_windows() {
         assert_eq!(window(u64::MAX, 0, 0), Err(5));
         assert_eq!(window(1, u64::MAX, u64::MAX), Err(5));
     }
-}
-
-#[test]
-fn limit_binds_only_an_end_of_zero() {
-    let mut block = m();
-    assert_eq!(model::set(&mut block, 0x11000, TOP_DOWN), 0);
-    assert_eq!(find_address(&block, 0x1000, 1), Ok(0x10000));
-    assert_eq!(find_address(&block, 0x1001, 1), Err(5));
-    let named = Wish {
-        end: 0x20000,
-        ..wish(0x1000, 1)
-    };
-    assert_eq!(find(&block, &named), Ok((0x1F000, 0x20000)));
-    assert_eq!(model::set(&mut block, 0, TOP_DOWN), 0);
-    assert_eq!(find_address(&block, 1, 1), Err(5));
 }
 
 #[test]
@@ -1118,5 +1104,111 @@ fn intake_in_every_order() {
         for end in ends {
             assert_eq!(records(&end, &MEMORY).len() as u64, there + 2);
         }
+    }
+}
+
+// Request E3: the limit binds.
+
+/// What find and allocate give in both directions, bottom-up first.
+fn both(ranges: &[(u64, u64)], limit: u64, wish: &Wish) -> [Result<u64, u32>; 2] {
+    [BOTTOM_UP, TOP_DOWN].map(|direction| {
+        let mut block = memory(ranges);
+        assert_eq!(model::set(&mut block, limit, direction), 0);
+        let found = find(&block, wish);
+        assert_eq!(allocate(&mut block, wish), found);
+        found.map(|(a, end)| {
+            assert_eq!(end, a + wish.size);
+            a
+        })
+    })
+}
+
+const M: [(u64, u64); 1] = [(0x10000, 0x20000)];
+
+#[test]
+fn limit_cuts_a_named_end() {
+    let with = |size, end| {
+        let named = Wish {
+            end,
+            ..wish(size, 1)
+        };
+        both(&M, 0x18000, &named)
+    };
+    // 0 means the limit; a named end below it stays; one at or above it is cut.
+    assert_eq!(with(0x1000, 0), [Ok(0x10000), Ok(0x17000)]);
+    assert_eq!(with(0x1000, 0x17FFF), [Ok(0x10000), Ok(0x16FFF)]);
+    for end in [0x18000, 0x18001, 0x1FFFF, 0x20000, 0x20001, u64::MAX] {
+        assert_eq!(with(0x1000, end), [Ok(0x10000), Ok(0x17000)]);
+        assert_eq!(with(0x8000, end), [Ok(0x10000); 2]);
+        assert_eq!(with(0x8001, end), [Err(5); 2]);
+    }
+    assert_eq!(with(0x7FFF, 0x17FFF), [Ok(0x10000); 2]);
+    assert_eq!(with(0x8000, 0x17FFF), [Err(5); 2]);
+    assert_eq!(with(1, 0x10000), [Err(5); 2]);
+    assert_eq!(with(1, 0x10001), [Ok(0x10000); 2]);
+}
+
+#[test]
+fn limit_at_or_below_4096_leaves_nothing() {
+    for end in [0, 1, 4095, 4096, 4097, 0x20000, u64::MAX] {
+        for limit in [0, 1, 4095, 4096] {
+            let named = Wish { end, ..wish(1, 1) };
+            assert_eq!(both(&[(0, 0x20000)], limit, &named), [Err(5); 2]);
+        }
+    }
+    for end in [0, 4097, 4098, u64::MAX] {
+        let named = Wish { end, ..wish(1, 1) };
+        assert_eq!(both(&[(0, 0x20000)], 4097, &named), [Ok(4096); 2]);
+        let two = Wish { end, ..wish(2, 1) };
+        assert_eq!(both(&[(0, 0x20000)], 4097, &two), [Err(5); 2]);
+    }
+}
+
+#[test]
+fn limit_at_or_below_the_start_leaves_nothing() {
+    for end in [0, 0x17FFF, 0x18000, 0x18001, 0x1C000, u64::MAX] {
+        for start in [0x18000, 0x18001, 0x1BFFF, 0x20000, u64::MAX] {
+            let named = Wish {
+                start,
+                end,
+                ..wish(1, 1)
+            };
+            assert_eq!(both(&M, 0x18000, &named), [Err(5); 2]);
+        }
+    }
+    for end in [0, 0x18000, 0x18001, u64::MAX] {
+        let last = Wish {
+            start: 0x17FFF,
+            end,
+            ..wish(1, 1)
+        };
+        assert_eq!(both(&M, 0x18000, &last), [Ok(0x17FFF); 2]);
+        assert_eq!(both(&M, 0x18000, &Wish { size: 2, ..last }), [Err(5); 2]);
+    }
+}
+
+#[test]
+fn limit_at_the_top() {
+    let page = u64::MAX - 4095;
+    let last = [(page, u64::MAX)];
+    for end in [0, u64::MAX] {
+        let all = Wish {
+            end,
+            ..wish(0xFFF, 1)
+        };
+        assert_eq!(both(&last, u64::MAX, &all), [Ok(page); 2]);
+        assert_eq!(both(&last, u64::MAX - 1, &all), [Err(5); 2]);
+        let less = Wish { size: 0xFFE, ..all };
+        assert_eq!(both(&last, u64::MAX - 1, &less), [Ok(page); 2]);
+    }
+}
+
+#[test]
+fn limit_does_not_bind_next_free() {
+    for limit in [0, 1, 0x10000, 0x18000, u64::MAX] {
+        let mut block = m();
+        assert_eq!(model::set(&mut block, limit, TOP_DOWN), 0);
+        assert_eq!(next_free(&block, 0, ANY_NODE), Ok((0x10000, 0x20000)));
+        assert_eq!(next_free(&block, 0x19000, ANY_NODE), Ok((0x19000, 0x20000)));
     }
 }

@@ -322,6 +322,8 @@ struct Ask {
     start: u64,
     end: u64,
     node: u32,
+    /// What is found is to be reserved.
+    takes: bool,
 }
 
 fn search(block: &Block, ask: &Ask) -> Option<u64> {
@@ -330,11 +332,31 @@ fn search(block: &Block, ask: &Ask) -> Option<u64> {
     let start = ask.start.max(lowest);
     let mut end = match ask.end {
         0 => block.limit,
-        named => named,
+        named => named.min(block.limit),
     };
-    // mutant 16: a named end is cut to the limit
-    if mutant(16) {
-        end = end.min(block.limit);
+    // mutant 16: a named end above the limit is taken as given
+    // mutant 60: allocate takes a named end above the limit as given
+    // mutant 61: a limit below the start cuts no named end
+    // mutant 62: a limit of 0 cuts no named end
+    // mutant 63: a limit of 1 to 4095 cuts no named end
+    let as_given = mutant(16)
+        || mutant(60) && ask.takes
+        || mutant(61) && block.limit < start
+        || mutant(62) && block.limit == 0
+        || mutant(63) && (1..4096).contains(&block.limit);
+    // mutant 64: a named end passes the limit by one address
+    let past_by_one = mutant(64) && block.limit < ask.end;
+    // mutant 65: an end of 0 is cut like any other
+    // mutant 66: a named end below the limit is passed over
+    let as_limit = mutant(66) && ask.end < block.limit;
+    if ask.end != 0 && as_given {
+        end = ask.end;
+    } else if past_by_one {
+        end = block.limit + 1;
+    } else if mutant(65) {
+        end = ask.end.min(block.limit);
+    } else if as_limit {
+        end = block.limit;
     }
     // mutant 17: the limit of the call before is used
     static LAST: AtomicU64 = AtomicU64::new(u64::MAX);
@@ -633,6 +655,16 @@ pub unsafe extern "C" fn memblock_next_free(
             }
             // mutant 29: next free answers the end of the record, not of the run
             let end = if mutant(29) { rec.end } else { hi };
+            // mutant 67: next free gives nothing above the limit
+            if mutant(67) && tables.limit <= a {
+                return tell(slip, Err(5));
+            }
+            // mutant 68: next free ends a run at the limit
+            let end = if mutant(68) {
+                end.min(tables.limit.max(a))
+            } else {
+                end
+            };
             return tell(slip, Ok((a, end)));
         }
     }
@@ -662,6 +694,7 @@ pub unsafe extern "C" fn memblock_find(
         start,
         end,
         node,
+        takes: false,
     };
     let answer = look(lent(block, len), &ask).map(|(_, a)| (a, a.wrapping_add(size)));
     // mutant 30: find writes one byte past the slip
@@ -702,6 +735,7 @@ pub unsafe extern "C" fn memblock_allocate(
         start,
         end,
         node,
+        takes: true,
     };
     let b = lent_mut(block, len);
     let slip = lent_mut(slip, slip_len);

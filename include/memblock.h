@@ -33,7 +33,7 @@ extern "C" {
 #define MEMBLOCK_BAD_TAG 2       /* add: flags not 0 or 4, or node above 63; searches: node above 63 and not any */
 #define MEMBLOCK_BAD_ALIGNMENT 3 /* not a power of two */
 #define MEMBLOCK_SIZE_ZERO 4     /* find, allocate */
-#define MEMBLOCK_NO_ADDRESS 5    /* no eligible address that ends by the limit; next free: no free address */
+#define MEMBLOCK_NO_ADDRESS 5    /* no eligible address below end and limit; next free: no free address */
 #define MEMBLOCK_TABLE_FULL 6    /* the changed table's finished shortest list has more than MEMBLOCK_CAPACITY records */
 #define MEMBLOCK_BAD_DIRECTION 7 /* set: above 1 */
 #define MEMBLOCK_BAD_SLIP 8      /* the slip is not MEMBLOCK_SLIP_LENGTH bytes */

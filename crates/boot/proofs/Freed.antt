@@ -6,8 +6,8 @@ use mathlib.Core.List.{List}
 use mathlib.Core.Logic.{_⊎_, inl, inr}
 use native.Mathlib.Omega.{arith}
 use lib.Dec.{eqb}
-use borrow.Author.Tests.{eq-eqb, le-leb}
-use Rattle.address.proofs.Tests.{and, clash}
+use borrow.Author.Tests.{eq-eqb}
+use Rattle.address.proofs.Tests.{clash}
 use Rattle.regions.specs.declared.Kind.the-variants.{Memory, Taken}
 use Rattle.regions.specs.declared.State.the-variants.{Present}
 use Rattle.regions.specs.Meaning.{at}
@@ -18,7 +18,7 @@ use Rattle.tables.specs.Block.{current, contents, good}
 use Rattle.tables.specs.Commands.{free}
 use Rattle.search.specs.declared.Query.{Query}
 use Rattle.search.specs.Search.{eligible, runsOf}
-use Rattle.search.proofs.Eligible.{OneTag, in-one-run}
+use Rattle.search.proofs.Eligible.{OneTag, in-one-run, lies-eligible}
 use Rattle.boot.specs.Calls.{frees, Command, outcomeBy}
 use Rattle.boot.proofs.Steps.{Made, Refused, Done, made, step}
 
@@ -38,14 +38,13 @@ module _ (b : List ℕ) (g : good current b ≡ true) (base size : ℕ) (d : fre
   pub freed-eligible : (q : Query) (a : ℕ) → 0 < q .size .0 → a % q .align .0 ≡ 0 → q .start .0 ≤ a → a + q .size .0 ≤ q .end .0
       → base ≤ a → a + q .size .0 ≤ cut base size → OneTag (λ c. usable (at (contents current b .memory) c)) (q .node) (q .size .0) a
       → eligible q (runsOf (contents current (free current base size b .block))) a ≡ true
-  unfolding eligible freeRuns freeMemory made change
+  unfolding freeRuns freeMemory made change
   freed-eligible q a pos al lo hi from to o =
       let s = contents current (free current base size b .block) in
       let p : OneTag (freeMemory (at (s .memory)) (at (s .taken))) (q .node) (q .size .0) a =
       record { tag = o .tag; right = o .right; all = all } in
-      and (eq-eqb (a % q .align .0) 0 al)
-      (and (and (le-leb (q .start .0) a lo) (le-leb (a + q .size .0) (q .end .0) hi))
-      (in-one-run (freeMemory (at (s .memory)) (at (s .taken))) (q .node) (q .size .0) a pos (omega arith) p))
+      let r = in-one-run (freeMemory (at (s .memory)) (at (s .taken))) (q .node) (q .size .0) a pos (omega arith) p in
+      lies-eligible q (runsOf s) a (record { aligned = al; start = lo; end = hi; run = r })
     where
       all : (c : ℕ) → a ≤ c → c < a + q .size .0
           → freeMemory (at (contents current (free current base size b .block) .memory)) (at (contents current (free current base size b .block) .taken)) c

@@ -36,13 +36,11 @@ module _ (limit : ℕ) (q : Query) (runs : List Region) (a : ℕ) where
     where
       go : (t : Bool) → eqb (q .end .0) 0 ≡ t → Lies (window limit q) runs a → Offered limit q runs a
       go true z l =
-          let m = l .end in
-          let n : a + q .size .0 ≤ max limit (windowStart (q .start .0)) = rw z at m in
-          record { aligned = l .aligned; start = l .start; by-limit = omega (arith, n, l .start); by-end = inl (eqb-true (q .end .0) 0 z); run = l .run }
+          let n : a + q .size .0 ≤ max limit (windowStart (q .start .0)) = rw z at l .end in
+          record { aligned = l .aligned; start = l .start; by-limit = omega (arith, l .start); by-end = inl (eqb-true (q .end .0) 0 z); run = l .run }
       go false z l =
-          let m = l .end in
-          let n : a + q .size .0 ≤ max (min (q .end .0) limit) (windowStart (q .start .0)) = rw z at m in
-          record { aligned = l .aligned; start = l .start; by-limit = omega (arith, n, l .start); by-end = inr (omega (arith, n, l .start)); run = l .run }
+          let n : a + q .size .0 ≤ max (min (q .end .0) limit) (windowStart (q .start .0)) = rw z at l .end in
+          record { aligned = l .aligned; start = l .start; by-limit = omega (arith, l .start); by-end = inr (omega (arith, l .start)); run = l .run }
 
   -- and it binds no further
   pub offered-eligible : Offered limit q runs a → eligible (window limit q) runs a ≡ true

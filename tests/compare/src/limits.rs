@@ -98,7 +98,7 @@ impl Sides {
         }
         Ok(format!(
             "{} sides, each met {} times at least; {} answers end at the limit; \
-             of named ends above it {} would have given another answer",
+             {} of the named ends above it gave another answer than without a limit",
             counts.len(),
             counts.iter().min().expect("there are sides"),
             self.to_the_limit,

@@ -140,8 +140,8 @@ impl Toy {
         };
         a.is_multiple_of(wish.alignment.into())
             && a >= wish.start.max(4096).into()
-            // No size is 0, so an end raised to the start leaves no more than
-            // one below it.
+            // No size is 0: an end below the start leaves nothing, raised to the
+            // start or not.
             && a + size <= self.limit.into()
             && (wish.end == 0 || a + size <= wish.end.into())
             && (wish.node == ANY || wish.node == tag.1)

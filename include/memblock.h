@@ -106,18 +106,18 @@ extern "C" {
  * than this. They are of the archive as this tree builds it. */
 #define MEMBLOCK_STACK_FRESH 64
 #define MEMBLOCK_STACK_SET 320
-#define MEMBLOCK_STACK_ADD 3520
-#define MEMBLOCK_STACK_REMOVE 3520
-#define MEMBLOCK_STACK_MARK 3520
-#define MEMBLOCK_STACK_UNMARK 3520
-#define MEMBLOCK_STACK_RESERVE 3520
-#define MEMBLOCK_STACK_FREE 3520
-#define MEMBLOCK_STACK_TRIM 3392
+#define MEMBLOCK_STACK_ADD 3712
+#define MEMBLOCK_STACK_REMOVE 3712
+#define MEMBLOCK_STACK_MARK 3712
+#define MEMBLOCK_STACK_UNMARK 3712
+#define MEMBLOCK_STACK_RESERVE 3712
+#define MEMBLOCK_STACK_FREE 3712
+#define MEMBLOCK_STACK_TRIM 320
 #define MEMBLOCK_STACK_NEXT_FREE 320
 #define MEMBLOCK_STACK_FIND 448
-#define MEMBLOCK_STACK_ALLOCATE 3584
-#define MEMBLOCK_STACK_INTAKE_E820 9792
-#define MEMBLOCK_STACK 9792 /* the most of these */
+#define MEMBLOCK_STACK_ALLOCATE 512
+#define MEMBLOCK_STACK_INTAKE_E820 9920
+#define MEMBLOCK_STACK 9920 /* the most of these */
 
 /* Writes a fresh block over any MEMBLOCK_BLOCK_LENGTH bytes: both tables empty, no limit, top-down. Answers 0 or 1. */
 uint32_t memblock_fresh(uint8_t *block, size_t length);

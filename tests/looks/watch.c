@@ -1,13 +1,22 @@
 /* How many records a command on a range looks at to find where the range begins. Hosted, Linux on x86-64, over the archive.
  *
- * The changed table stands on a page that may not be touched. Each access faults: it is noted, the page is opened for that one
+ * The changed table stands on pages that may not be touched. Each access faults: it is noted, the pages are opened for that one
  * instruction and shut again behind it. So the reads of the compiled functions themselves are counted. A look at a record is a read
- * of its base; what memcpy and memset move is no look.
+ * that begins at its base, into a general register: vector registers, memcpy and memset only move records.
  *
- * A command looks at each record once to check the block, and at each record from the place on once to put it behind. All
- * looks beyond these are for the place: at most as many as the number of records has binary digits, 8 at 128. Tried for every command
- * on a range, at every fill from 0 to 128, for addresses before, inside, between and after the records. Then the same with a walk
- * from record to record added, as a step that does not halve: that must be seen as too many. */
+ * Counted are the looks for the place alone. What is taken off, and why:
+ * - the check of the block looks at each record once. It reads the tables and then the header, so the table is open from the first
+ *   access to it up to the next access before it. Of a call of set, which only checks, no look may be left;
+ * - allocate searches first: the looks of a find with the same numbers on the same block, which allocate's must begin with;
+ * - what follows the first write moves records: by then the place is known;
+ * - the change reads the records that the range meets or touches, first up to stop - 1, and of the two beside them where they begin and
+ *   end. No step knows the place before it has looked at first - 1 and first: up to there every look counts, behind it all but those at
+ *   first - 1 to stop. A halving search ends just there, so that its looks are counted exactly.
+ *
+ * They may be at most as many as the number of records has binary digits, 8 at 128, and at the full table that many must be met. Tried
+ * for every command on a range, at every fill, for ranges before, between, behind, inside, touching and over the records. Then the
+ * count itself is tried, with steps that count their own looks: one that halves, and, as must be seen as too many, one that cuts off a
+ * quarter at each look and one that goes from record to record. */
 #define _GNU_SOURCE
 #include "memblock.h"
 
@@ -24,27 +33,31 @@
 #pragma GCC optimize("no-tree-loop-distribute-patterns")
 #endif
 
+#define MEMORY_CAPACITY MEMBLOCK_CAPACITY
+#define TAKEN_CAPACITY MEMBLOCK_CAPACITY
+#define RECORD MEMBLOCK_RECORD_LENGTH
 #define PAGE 4096
-#define RECORD 24
-#define CAPACITY 128
-#define TABLE (RECORD * CAPACITY)
-#define MEMORY_AT 80
-#define TAKEN_AT (MEMORY_AT + TABLE)
+#define PAGES(bytes) (((bytes) + PAGE - 1) / PAGE)
+#define FRONT (PAGE * PAGES(MEMBLOCK_TAKEN_AT))
+#define MOST_LOOKS 65536
+
+/* Record i has the addresses from ORIGIN + STEP * i + 3 up to, not including, ORIGIN + STEP * i + 5. */
+#define ORIGIN MEMBLOCK_LOWEST_START
+#define STEP 8
+#define BEGIN 3
+#define END 5
+
 #define TRAP_FLAG 0x100
+#define WRITE 2
 
-static uint8_t *page;
-static volatile int watching, open_for_one;
-static volatile size_t records, looks, reads;
+/* The pages before the table, which have the header, and the table's own. */
+static uint8_t *front, *table;
+static size_t watched;
 
-static void shut(void)
-{
-    mprotect(page, PAGE, PROT_NONE);
-}
-
-static void open_up(void)
-{
-    mprotect(page, PAGE, PROT_READ | PROT_WRITE);
-}
+static volatile enum { AT_REST, BEFORE_CHECK, IN_CHECK, WATCHING, WRITTEN } phase;
+static volatile int open_for_one;
+static volatile size_t records, accesses, looks;
+static uint16_t looked_at[MOST_LOOKS];
 
 static void end_with(const char *text)
 {
@@ -52,18 +65,57 @@ static void end_with(const char *text)
     _exit(write(STDERR_FILENO, text, length) == (ssize_t)length ? 1 : 2);
 }
 
+static void shut(void)
+{
+    mprotect(table, watched, PROT_NONE);
+}
+
+static void open_up(void)
+{
+    mprotect(table, watched, PROT_READ | PROT_WRITE);
+}
+
+/* Whether the instruction is one of the vector registers: SSE, as the archive has no other. */
+static int is_vector(const uint8_t *code)
+{
+    while (*code == 0x66 || *code == 0xF2 || *code == 0xF3 || (*code & 0xF0) == 0x40)
+        code++;
+    return code[0] == 0x0F && ((code[1] & 0xF8) == 0x10 || (code[1] & 0xF8) == 0x28 || (code[1] >= 0x50 && code[1] < 0x80) ||
+                               code[1] >= 0xD0);
+}
+
 static void on_fault(int signal, siginfo_t *info, void *context)
 {
     (void)signal;
-    size_t at = (size_t)((uintptr_t)info->si_addr - (uintptr_t)page);
-    if (at >= PAGE || open_for_one || !watching)
-        end_with("looks: an access outside the page\n");
-    reads++;
-    if (at % RECORD < 8 && at / RECORD < records)
-        looks++;
-    open_for_one = 1;
+    uintptr_t address = (uintptr_t)info->si_addr;
+    greg_t *registers = ((ucontext_t *)context)->uc_mcontext.gregs;
+    size_t at = (size_t)(address - (uintptr_t)table);
+    accesses++;
+    if (phase == IN_CHECK && address - (uintptr_t)front < FRONT) {
+        mprotect(front, FRONT, PROT_READ | PROT_WRITE);
+        shut();
+        phase = WATCHING;
+        return;
+    }
+    if (at >= watched || open_for_one || (phase != BEFORE_CHECK && phase != WATCHING))
+        end_with("looks: an access outside the table\n");
     open_up();
-    ((ucontext_t *)context)->uc_mcontext.gregs[REG_EFL] |= TRAP_FLAG;
+    if (phase == BEFORE_CHECK) {
+        mprotect(front, FRONT, PROT_NONE);
+        phase = IN_CHECK;
+        return;
+    }
+    if (registers[REG_ERR] & WRITE) {
+        phase = WRITTEN;
+        return;
+    }
+    if (at % RECORD == MEMBLOCK_RECORD_BASE_AT && at / RECORD < records && !is_vector((const uint8_t *)registers[REG_RIP])) {
+        if (looks == MOST_LOOKS)
+            end_with("looks: too many to be noted\n");
+        looked_at[looks++] = (uint16_t)(at / RECORD);
+    }
+    open_for_one = 1;
+    registers[REG_EFL] |= TRAP_FLAG;
 }
 
 /* Behind the instruction. */
@@ -89,80 +141,114 @@ static void catch(int signal, void (*handler)(int, siginfo_t *, void *))
 /* What the archive moves bytes with: no looks. */
 void *memcpy(void *restrict to, const void *restrict from, size_t length)
 {
-    if (watching)
+    if (phase == WATCHING)
         open_up();
     uint8_t *t = to;
     const uint8_t *f = from;
     for (size_t i = 0; i < length; i++)
         t[i] = f[i];
-    if (watching)
+    if (phase == WATCHING)
         shut();
     return to;
 }
 
 void *memset(void *to, int byte, size_t length)
 {
-    if (watching)
+    if (phase == WATCHING)
         open_up();
     uint8_t *t = to;
     for (size_t i = 0; i < length; i++)
         t[i] = (uint8_t)byte;
-    if (watching)
+    if (phase == WATCHING)
         shut();
     return to;
 }
 
-typedef uint32_t command(uint8_t *block, uint64_t base);
+typedef uint32_t command(uint8_t *block, uint64_t base, uint64_t size);
 
-static uint32_t add(uint8_t *block, uint64_t base)
+static uint32_t add(uint8_t *block, uint64_t base, uint64_t size)
 {
-    return memblock_add(block, MEMBLOCK_BLOCK_LENGTH, base, 1, 0, 0);
+    return memblock_add(block, MEMBLOCK_BLOCK_LENGTH, base, size, 0, 0);
 }
 
-static uint32_t remove_one(uint8_t *block, uint64_t base)
+static uint32_t remove_some(uint8_t *block, uint64_t base, uint64_t size)
 {
-    return memblock_remove(block, MEMBLOCK_BLOCK_LENGTH, base, 1);
+    return memblock_remove(block, MEMBLOCK_BLOCK_LENGTH, base, size);
 }
 
-static uint32_t mark(uint8_t *block, uint64_t base)
+static uint32_t mark(uint8_t *block, uint64_t base, uint64_t size)
 {
-    return memblock_mark(block, MEMBLOCK_BLOCK_LENGTH, base, 1);
+    return memblock_mark(block, MEMBLOCK_BLOCK_LENGTH, base, size);
 }
 
-static uint32_t unmark(uint8_t *block, uint64_t base)
+static uint32_t unmark(uint8_t *block, uint64_t base, uint64_t size)
 {
-    return memblock_unmark(block, MEMBLOCK_BLOCK_LENGTH, base, 1);
+    return memblock_unmark(block, MEMBLOCK_BLOCK_LENGTH, base, size);
 }
 
-static uint32_t reserve(uint8_t *block, uint64_t base)
+static uint32_t reserve(uint8_t *block, uint64_t base, uint64_t size)
 {
-    return memblock_reserve(block, MEMBLOCK_BLOCK_LENGTH, base, 1);
+    return memblock_reserve(block, MEMBLOCK_BLOCK_LENGTH, base, size);
 }
 
-static uint32_t free_one(uint8_t *block, uint64_t base)
+static uint32_t free_some(uint8_t *block, uint64_t base, uint64_t size)
 {
-    return memblock_free(block, MEMBLOCK_BLOCK_LENGTH, base, 1);
+    return memblock_free(block, MEMBLOCK_BLOCK_LENGTH, base, size);
 }
 
-static const struct {
+static uint8_t slip[MEMBLOCK_SLIP_LENGTH];
+
+/* Exactly this range. */
+static uint32_t allocate(uint8_t *block, uint64_t base, uint64_t size)
+{
+    return memblock_allocate(block, MEMBLOCK_BLOCK_LENGTH, size, 1, base, base + size, MEMBLOCK_ANY_NODE, slip, sizeof slip);
+}
+
+static uint32_t find(uint8_t *block, uint64_t base, uint64_t size)
+{
+    return memblock_find(block, MEMBLOCK_BLOCK_LENGTH, size, 1, base, base + size, MEMBLOCK_ANY_NODE, slip, sizeof slip);
+}
+
+static uint32_t set(uint8_t *block, uint64_t base, uint64_t size)
+{
+    (void)base;
+    (void)size;
+    return memblock_set(block, MEMBLOCK_BLOCK_LENGTH, MEMBLOCK_NO_LIMIT, MEMBLOCK_TOP_DOWN);
+}
+
+/* A step that looks at the record behind the first part of those left, after the check; so many looks by its own count. */
+static size_t part, own_looks;
+
+static uint32_t step(uint8_t *block, uint64_t base, uint64_t size)
+{
+    uint32_t number = set(block, base, size);
+    const volatile uint64_t *fields = (const volatile uint64_t *)table;
+    size_t low = 0, high = records;
+    for (own_looks = 0; low < high; own_looks++) {
+        size_t i = low + (high - low) / part;
+        if (fields[3 * i] + fields[3 * i + 1] < base)
+            low = i + 1;
+        else
+            high = i;
+    }
+    return number;
+}
+
+/* A command, and the call that does what it does before it changes the table. */
+struct tried {
     const char *name;
-    command *call;
-    size_t table;
-} commands[] = {
-    {"add", add, MEMORY_AT},       {"remove", remove_one, MEMORY_AT}, {"mark", mark, MEMORY_AT},
-    {"unmark", unmark, MEMORY_AT}, {"reserve", reserve, TAKEN_AT},    {"free", free_one, TAKEN_AT},
+    command *call, *before;
+    size_t table, capacity;
+    size_t apart; /* how far a record must end from the range to lie before the place: 1, or 0 where none is met, only touched */
+};
+
+static const struct tried commands[] = {
+    {"add", add, set, MEMBLOCK_MEMORY_AT, MEMORY_CAPACITY, 1},       {"remove", remove_some, set, MEMBLOCK_MEMORY_AT, MEMORY_CAPACITY, 1},
+    {"mark", mark, set, MEMBLOCK_MEMORY_AT, MEMORY_CAPACITY, 1},     {"unmark", unmark, set, MEMBLOCK_MEMORY_AT, MEMORY_CAPACITY, 1},
+    {"reserve", reserve, set, MEMBLOCK_TAKEN_AT, TAKEN_CAPACITY, 1}, {"free", free_some, set, MEMBLOCK_TAKEN_AT, TAKEN_CAPACITY, 1},
+    {"allocate", allocate, find, MEMBLOCK_TAKEN_AT, TAKEN_CAPACITY, 0},
 };
 #define COMMANDS (sizeof commands / sizeof *commands)
-
-/* A step that does not halve, for the same address. */
-static size_t one_by_one(const uint8_t *table, uint64_t a)
-{
-    const volatile uint64_t *fields = (const volatile uint64_t *)table;
-    size_t i = 0;
-    while (i < records && fields[3 * i] + 2 <= a)
-        i++;
-    return i;
-}
 
 static size_t digits(size_t n)
 {
@@ -174,82 +260,149 @@ static size_t digits(size_t n)
 
 static size_t calls;
 
-/* The looks of one call beyond those that check the block and those from the place on. Record i has the addresses 4i + 1 and 4i + 2, so
- * the place of an address a is (a + 1) / 4. */
-static size_t looks_for_place(size_t c, const uint8_t *saved, uint8_t *block, uint64_t a, int walk)
+/* Notes the looks of one call on a copy of `saved`. */
+static void watch(const struct tried *c, command *call, const uint8_t *saved, uint64_t base, uint64_t size)
 {
+    uint8_t *block = table - c->table;
     memcpy(block, saved, MEMBLOCK_BLOCK_LENGTH);
     looks = 0;
-    watching = 1;
     shut();
-    uint32_t number = commands[c].call(block, a);
-    if (walk)
-        one_by_one(page, a);
+    phase = BEFORE_CHECK;
+    uint32_t number = call(block, base, size);
+    int checked = phase == WATCHING || phase == WRITTEN;
+    phase = AT_REST;
     open_up();
-    watching = 0;
+    mprotect(front, FRONT, PROT_READ | PROT_WRITE);
     calls++;
     if (number != MEMBLOCK_DONE && number != MEMBLOCK_TABLE_FULL) {
-        fprintf(stderr, "looks: %s answers %u\n", commands[c].name, number);
+        fprintf(stderr, "looks: %s answers %u\n", c->name, number);
         exit(1);
     }
-    size_t others = records + (records - (a + 1) / 4);
-    return looks > others ? looks - others : 0;
+    if (!checked)
+        end_with("looks: no check of the block is seen\n");
 }
 
-/* As a fresh block is built by calls: so many records in the command's table, none in the other. */
-static void fill(size_t c, uint8_t *block)
+/* The looks for the place of the range. */
+static size_t looks_for_place(const struct tried *c, const uint8_t *saved, uint64_t base, uint64_t size)
 {
+    static uint16_t before[MOST_LOOKS];
+    watch(c, c->before, saved, base, size);
+    size_t others = looks;
+    for (size_t i = 0; i < others; i++)
+        before[i] = looked_at[i];
+    if (c->before == set && others != 0)
+        end_with("looks: some are left of the check\n");
+    watch(c, c->call, saved, base, size);
+    for (size_t i = 0; i < others; i++)
+        if (i >= looks || looked_at[i] != before[i])
+            end_with("looks: allocate does not search as find does\n");
+
+    /* The records before the place, and those that begin at or below the range's end. */
+    size_t from = (size_t)(base - ORIGIN), to = from + (size_t)size;
+    size_t first = (from + STEP - END - c->apart) / STEP, stop = (to + STEP - BEGIN) / STEP;
+    if (first > records)
+        first = records;
+    if (stop > records)
+        stop = records;
+    size_t count = 0;
+    int seen_below = first == 0, seen_at = first == records;
+    for (size_t i = others; i < looks; i++) {
+        size_t r = looked_at[i];
+        if (!(seen_below && seen_at) || r + 1 < first || r > stop)
+            count++;
+        seen_below |= r + 1 == first;
+        seen_at |= r == first;
+    }
+    if (!(seen_below && seen_at))
+        end_with("looks: none at the records beside the place\n");
+    return count;
+}
+
+/* A block as calls build it: so many records in the command's table; in the other none, or one with all addresses of the taken ones. */
+static void fill(const struct tried *c, uint8_t *block)
+{
+    int memory = c->table == MEMBLOCK_MEMORY_AT;
     uint32_t numbers = memblock_fresh(block, MEMBLOCK_BLOCK_LENGTH);
+    if (!memory)
+        numbers |= add(block, ORIGIN, STEP * (records + 1));
     for (size_t i = 0; i < records; i++)
-        numbers |= commands[c].table == MEMORY_AT ? memblock_add(block, MEMBLOCK_BLOCK_LENGTH, 4 * i + 1, 2, 0, 0)
-                                                  : memblock_reserve(block, MEMBLOCK_BLOCK_LENGTH, 4 * i + 1, 2);
+        numbers |= (memory ? add : reserve)(block, ORIGIN + STEP * i + BEGIN, END - BEGIN);
     if (numbers != 0)
         end_with("looks: a call that fills a table is refused\n");
 }
 
 static size_t most;
 
-static void look(size_t c, const uint8_t *saved, uint8_t *block, uint64_t a)
+static void look(const struct tried *c, const uint8_t *saved, uint64_t at, uint64_t size)
 {
-    size_t beyond = looks_for_place(c, saved, block, a, 0);
-    if (beyond > most)
-        most = beyond;
-    if (beyond > digits(records)) {
-        fprintf(stderr, "looks: %s at address %ju looks at %zu of %zu records\n", commands[c].name, (uintmax_t)a, beyond, records);
+    size_t count = looks_for_place(c, saved, ORIGIN + at, size);
+    if (count > most)
+        most = count;
+    if (count > digits(records)) {
+        fprintf(stderr, "looks: %s, size %ju, from %ju on looks at %zu of %zu records, more than %zu\n", c->name, (uintmax_t)size,
+                (uintmax_t)(ORIGIN + at), count, (size_t)records, digits(records));
         exit(1);
+    }
+}
+
+/* At the gap before a record: apart from it, touching it, and touching the one before. Then, as allocate cannot, inside and over records. */
+static void look_around(const struct tried *c, const uint8_t *saved, uint64_t record)
+{
+    look(c, saved, STEP * record, 1);
+    look(c, saved, STEP * record + BEGIN - 1, 1);
+    if (record > 0)
+        look(c, saved, STEP * (record - 1) + END, 1);
+    if (c->call == allocate)
+        return;
+    look(c, saved, STEP * record + BEGIN + 1, 1);
+    look(c, saved, STEP * record + BEGIN + 1, 3 * STEP);
+}
+
+/* Whether a step's looks are counted as it counts them, and whether they are too many. */
+static void try_step(size_t cut, const uint8_t *saved, int too_many)
+{
+    static const struct tried steps = {"a step", step, set, MEMBLOCK_TAKEN_AT, TAKEN_CAPACITY, 1};
+    part = cut;
+    for (size_t record = 0; record <= records; record++) {
+        size_t count = looks_for_place(&steps, saved, ORIGIN + STEP * record, 1);
+        if (count != own_looks)
+            end_with("looks: a step's own count is another\n");
+        if (record == records && (count > digits(records)) != too_many)
+            end_with("looks: too many are not seen, or seen where there are none\n");
     }
 }
 
 int main(void)
 {
-    uint8_t *pages = mmap(NULL, 4 * PAGE, PROT_READ | PROT_WRITE, MAP_PRIVATE | MAP_ANONYMOUS, -1, 0);
-    if (pages == MAP_FAILED)
+    size_t length = FRONT + PAGE * PAGES(MEMBLOCK_BLOCK_LENGTH);
+    front = mmap(NULL, length, PROT_READ | PROT_WRITE, MAP_PRIVATE | MAP_ANONYMOUS, -1, 0);
+    if (front == MAP_FAILED)
         end_with("looks: no memory\n");
-    page = pages + PAGE;
+    table = front + FRONT;
     catch(SIGSEGV, on_fault);
     catch(SIGTRAP, on_trap);
     static uint8_t saved[MEMBLOCK_BLOCK_LENGTH];
-    for (size_t c = 0; c < COMMANDS; c++) {
-        uint8_t *block = page - commands[c].table;
-        for (records = 0; records <= CAPACITY; records++) {
+    for (const struct tried *c = commands; c < commands + COMMANDS; c++) {
+        watched = PAGE * PAGES(RECORD * c->capacity);
+        for (records = 0; records <= c->capacity; records++) {
             fill(c, saved);
-            uint64_t middle = 4 * (records / 2);
-            look(c, saved, block, 0);
-            look(c, saved, block, middle);
-            look(c, saved, block, middle + 1);
-            look(c, saved, block, 4 * records);
+            look_around(c, saved, 0);
+            look_around(c, saved, records / 2);
+            look_around(c, saved, records);
         }
-        records = CAPACITY;
+        records = c->capacity;
         fill(c, saved);
         most = 0;
-        for (uint64_t a = 0; a < 4 * CAPACITY + 3; a += c < COMMANDS - 2 ? 4 : 1)
-            look(c, saved, block, a);
-        printf("looks: %s: at most %zu of %u records\n", commands[c].name, most, CAPACITY);
-        if (most != digits(CAPACITY))
+        for (size_t record = 0; record <= records; record++)
+            look_around(c, saved, record);
+        printf("looks: %s: at most %zu of %zu records\n", c->name, most, c->capacity);
+        if (most != digits(records))
             end_with("looks: the most is not reached\n");
-        if (looks_for_place(c, saved, block, 4 * CAPACITY, 1) <= digits(CAPACITY))
-            end_with("looks: a walk from record to record is not seen\n");
     }
-    printf("looks: %zu calls at every fill from 0 to %u, %zu reads and writes watched\n", calls, CAPACITY, reads);
+    try_step(2, saved, 0);
+    try_step(4, saved, 1);
+    try_step(2 * TAKEN_CAPACITY, saved, 1);
+    printf("looks: %zu calls at every fill, %zu accesses seen; a step that cuts off a quarter and one from record to record refused\n",
+           calls, (size_t)accesses);
     return 0;
 }

@@ -1,8 +1,8 @@
-//! How the time of one call grows with the fill of the tables.
+//! How one call grows with the fill of the tables: the calls, and their time.
 
 use crate::library::Library;
 use crate::sides::{call_both, Block, Call, Side, ANY_NODE, BOTTOM_UP, LENGTH, TOP_DOWN};
-use crate::time::{clock, median, nanoseconds};
+use crate::time::{clock, middle, nanoseconds};
 use std::hint::black_box;
 use std::time::Instant;
 
@@ -45,30 +45,96 @@ fn filled<Other: Side>(fill: u64, direction: u32) -> Block {
     block
 }
 
-/// The calls that are measured: name, direction of the block, call.
-fn calls(fill: u64) -> [(&'static str, u32, Call<'static>); 11] {
+/// A call that is measured, and the block that it is made on.
+pub struct Row {
+    pub name: &'static str,
+    direction: u32,
+    /// Made on the block first.
+    before: Option<Call<'static>>,
+    pub call: Call<'static>,
+}
+
+impl Row {
+    /// The block before the call, which is known to answer 0 on both sides.
+    pub fn block<Other: Side>(&self, fill: u64) -> Block {
+        let mut block = filled::<Other>(fill, self.direction);
+        if let Some(call) = self.before {
+            assert_eq!(call_both::<Other>(call, &mut block), 0);
+        }
+        assert_eq!(call_both::<Other>(self.call, &mut block.clone()), 0);
+        block
+    }
+}
+
+pub fn rows(fill: u64) -> Vec<Row> {
     let middle = base(fill / 2);
     let apart = middle - STEP / 2;
+    let top = base(fill);
     let reserve = |base| Call::Reserve(base, PAGE);
     let find = Call::Find(2 * PAGE, PAGE, 0, 0, ANY_NODE);
     let allocate = Call::Allocate(2 * PAGE, PAGE, 0, 0, ANY_NODE);
-    [
-        ("set", TOP_DOWN, Call::Set(1 << 40, BOTTOM_UP)),
-        ("add", TOP_DOWN, Call::Add(apart, PAGE, 0, 0)),
-        ("reserve, first", TOP_DOWN, reserve(base(0) - STEP / 2)),
-        ("reserve, middle", TOP_DOWN, reserve(apart)),
-        ("reserve, last", TOP_DOWN, reserve(base(fill) - STEP / 2)),
-        ("free", TOP_DOWN, Call::Free(middle + 8 * PAGE, PAGE)),
-        (
-            "next free",
-            TOP_DOWN,
-            Call::NextFree(base(fill - 1) + 2 * PAGE, ANY_NODE),
-        ),
-        ("find, top-down", TOP_DOWN, find),
-        ("find, bottom-up", BOTTOM_UP, find),
-        ("allocate, top-down", TOP_DOWN, allocate),
-        ("allocate, bottom-up", BOTTOM_UP, allocate),
+    let next_free = Call::NextFree(base(fill - 1) + 2 * PAGE, ANY_NODE);
+    let marked = Call::Mark(middle, STEP / 2);
+    let down = |name, call| Row {
+        name,
+        direction: TOP_DOWN,
+        before: None,
+        call,
+    };
+    let up = |name, call| Row {
+        direction: BOTTOM_UP,
+        ..down(name, call)
+    };
+    vec![
+        down("fresh", Call::Fresh),
+        down("set", Call::Set(1 << 40, BOTTOM_UP)),
+        down("add", Call::Add(apart, PAGE, 0, 0)),
+        down("remove", Call::Remove(middle + 8 * PAGE, PAGE)),
+        down("mark", Call::Mark(middle, PAGE)),
+        Row {
+            before: Some(marked),
+            ..down("unmark", Call::Unmark(middle, PAGE))
+        },
+        down("trim", Call::Trim(PAGE)),
+        down("reserve, first", reserve(base(0) - STEP / 2)),
+        down("reserve, middle", reserve(apart)),
+        down("reserve, last", reserve(top - STEP / 2)),
+        down("free", Call::Free(middle + 8 * PAGE, PAGE)),
+        down("free, upper half", Call::Free(middle, top - middle)),
+        down("free, all", Call::Free(0, top)),
+        down("mark, all", Call::Mark(0, top)),
+        down("reserve, all", Call::Reserve(0, top)),
+        down("next free", next_free),
+        down("find, top-down", find),
+        up("find, bottom-up", find),
+        down("allocate, top-down", allocate),
+        up("allocate, bottom-up", allocate),
     ]
+}
+
+/// Prints a table of what `measure` gives for the library and the other side.
+pub fn print<Other: Side>(what: &str, measure: impl Fn(&Row, &Block) -> (f64, f64)) {
+    println!(
+        "bench: one call at a fill of both tables, {what}, library/{} and ratio",
+        Other::NAME
+    );
+    print!("{:20}", "");
+    for fill in FILLS {
+        print!(" {:>18}", format!("fill {fill}"));
+    }
+    println!();
+    for row in 0..rows(1).len() {
+        print!("{:20}", rows(1)[row].name);
+        for fill in FILLS {
+            let row = &rows(fill)[row];
+            let (library, other) = measure(row, &row.block::<Other>(fill));
+            print!(
+                " {:>18}",
+                format!("{library:.0}/{other:.0} {:.2}", library / other)
+            );
+        }
+        println!();
+    }
 }
 
 fn time<S: Side>(call: Call, saved: &Block, block: &mut Block) -> f64 {
@@ -81,42 +147,22 @@ fn time<S: Side>(call: Call, saved: &Block, block: &mut Block) -> f64 {
     time
 }
 
-/// Prints a table of medians over `turns` calls of each side.
+/// Prints the time of one call, by `turns` calls of each side.
 pub fn table<Other: Side>(turns: usize) {
     let clock = clock();
-    println!(
-        "bench: one call at a fill of both tables, ns library / ns {}, ratio",
-        Other::NAME
-    );
-    print!("{:20}", "");
-    for fill in FILLS {
-        print!(" {:>18}", format!("fill {fill}"));
-    }
-    println!();
-    for row in 0..calls(1).len() {
-        print!("{:20}", calls(1)[row].0);
-        for fill in FILLS {
-            let (_, direction, call) = calls(fill)[row];
-            let saved = filled::<Other>(fill, direction);
-            assert_eq!(call_both::<Other>(call, &mut saved.clone()), 0);
-            let mut block = Block([0; LENGTH]);
-            let (mut library, mut other) = (Vec::new(), Vec::new());
-            for turn in 0..turns + turns / 10 {
-                let times = (
-                    time::<Library>(call, &saved, &mut block),
-                    time::<Other>(call, &saved, &mut block),
-                );
-                if turn >= turns / 10 {
-                    library.push(times.0 - clock);
-                    other.push(times.1 - clock);
-                }
-            }
-            let (library, other) = (median(&library), median(&other));
-            print!(
-                " {:>18}",
-                format!("{library:.0}/{other:.0} {:.2}", library / other)
+    print::<Other>("ns", |row, saved| {
+        let mut block = Block([0; LENGTH]);
+        let (mut library, mut other) = (Vec::new(), Vec::new());
+        for turn in 0..turns + turns / 10 {
+            let times = (
+                time::<Library>(row.call, saved, &mut block),
+                time::<Other>(row.call, saved, &mut block),
             );
+            if turn >= turns / 10 {
+                library.push(times.0 - clock);
+                other.push(times.1 - clock);
+            }
         }
-        println!();
-    }
+        (middle(&library), middle(&other))
+    });
 }

@@ -143,12 +143,31 @@ fn one_turn<S: Side>(work: [&[Call]; 2], by_calls: &[Call]) -> [Run; 3] {
     [intake, allocations, by_calls]
 }
 
+/// What `count` gives for one side's intake and for its allocations.
+pub fn counted(
+    seed: u64,
+    pages: Pages,
+    direction: u32,
+    count: impl Fn(&[Call], &mut Block) -> f64,
+) -> [f64; 2] {
+    let report = report(&ranges(seed, pages, direction));
+    let mut block = Block([0xa5; LENGTH]);
+    [
+        count(&intake(&report, direction), &mut block),
+        count(&allocations(), &mut block),
+    ]
+}
+
+fn allocations() -> [Call<'static>; ALLOCATIONS] {
+    [Call::Allocate(PAGE, PAGE, 0, 0, ANY_NODE); ALLOCATIONS]
+}
+
 /// Runs both sides in turn and compares what each pair of runs leaves.
 pub fn measure<Other: Side>(seed: u64, pages: Pages, direction: u32, runs: usize) -> Times {
     let ranges = ranges(seed, pages, direction);
     let report = report(&ranges);
     let intake = intake(&report, direction);
-    let allocations = [Call::Allocate(PAGE, PAGE, 0, 0, ANY_NODE); ALLOCATIONS];
+    let allocations = allocations();
     let by_calls = intake_by_calls(&ranges, direction);
     let mut times = Times::default();
     for turn in 0..WARM_UP + runs {

@@ -1,11 +1,12 @@
 //! Times the library beside a straightforward program with the same rules or,
-//! with `since`, beside an earlier library. Fails on a difference between the
-//! two, never on a time.
+//! with `since`, beside an earlier library, or counts its instructions. Fails on a
+//! difference between the two, never on a figure.
 
 /// The library of another archive: the text of library.rs under other names.
 mod before {
     include!(concat!(env!("OUT_DIR"), "/before.rs"));
 }
+mod count;
 mod equal;
 mod growth;
 mod intake;
@@ -39,14 +40,18 @@ const SHAPES: [(&str, Pages); 4] = [
     }),
 ];
 
+const DIRECTIONS: [(u32, &str); 2] = [(TOP_DOWN, "top-down"), (BOTTOM_UP, "bottom-up")];
+
 type Part = (&'static str, fn());
 
-/// The parts are run in this order; arguments name those that are wanted.
-fn parts<Other: Side>() -> [Part; 3] {
+/// The parts are run in this order; arguments name those that are wanted. Without
+/// arguments `count` is left out: it needs bench/run and takes longer.
+fn parts<Other: Side>() -> [Part; 4] {
     [
         ("equal", || equal::random_calls::<Other>(RANDOM_CALLS)),
         ("intake", intake::<Other>),
         ("growth", || growth::table::<Other>(CALLS_OF_A_KIND)),
+        ("count", count::print::<Other>),
     ]
 }
 
@@ -60,12 +65,12 @@ fn main() {
     };
     for name in &wanted {
         if !parts.iter().any(|part| part.0 == name) {
-            eprintln!("bench: no part {name}; there are equal, intake and growth");
+            eprintln!("bench: no part {name}; there are equal, intake, growth and count");
             std::process::exit(2);
         }
     }
     for (name, part) in parts {
-        if wanted.is_empty() || wanted.iter().any(|word| word == name) {
+        if (wanted.is_empty() && name != "count") || wanted.iter().any(|word| word == name) {
             part();
         }
     }
@@ -79,7 +84,7 @@ fn intake<Other: Side>() {
         env!("BENCH_PLACE")
     );
     for (shape, pages) in SHAPES {
-        for (direction, name) in [(TOP_DOWN, "top-down"), (BOTTOM_UP, "bottom-up")] {
+        for (direction, name) in DIRECTIONS {
             let times = SEEDS.map(|seed| intake::measure::<Other>(seed, pages, direction, RUNS));
             intake::print::<Other>(&format!("E11 work{shape}, {name}"), &times);
         }

@@ -7,8 +7,11 @@ use lib.ListN.{getD, replicate, getD-replicate}
 use borrow.Author.Tests.{ne-eqb}
 use Rattle.intake.specs.declared.e820.Becomes.{Becomes}
 use Rattle.intake.specs.declared.e820.Becomes.the-variants.{Added, PassedOver}
+use mathlib.Core.Bool.{true}
+use Rattle.regions.specs.declared.Kind.the-variants.{Memory}
+use Rattle.regions.specs.Lists.{legalTag}
 use Rattle.tables.specs.Block.{current}
-use Rattle.tables.specs.Commands.{Outcome, outcome, add}
+use Rattle.tables.specs.Commands.{Outcome, outcome, tag, add}
 use Rattle.intake.specs.declared.e820.Entry.{Entry}
 use Rattle.intake.specs.E820.{becomes, takeAs, takeEntry}
 
@@ -26,6 +29,10 @@ kind-listed (suc zero) h = refl
 kind-listed (suc (suc k)) h = getD-replicate 6 k PassedOver Added (omega arith) ∙ other (suc (suc k)) (λ e. omega arith)
 
 -- ---- one entry on a block
+
+pub plain-legal : legalTag Memory (tag 0 0) ≡ true
+unfolding legalTag
+plain-legal = refl
 
 module _ (e : Entry) (k : Becomes) (is : k ≡ becomes (e .kind)) (b : List ℕ) where
   pub entry-added : k ≡ Added → (o : Outcome) → o ≡ add current (e .base .0) (e .size .0) 0 0 b → o ≡ takeEntry current e b

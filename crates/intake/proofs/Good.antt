@@ -1,6 +1,6 @@
 -- A report taken in on a good block leaves a good block, and past the checks it answers 0 or 6. Assumes nothing.
 use Prim.Native.Nat.{ℕ, _-_}
-use mathlib.Core.Path.{_≡_, refl}
+use mathlib.Core.Path.{_≡_, refl, ap}
 use mathlib.Core.Bool.{Bool, true, false, cond}
 use mathlib.Core.List.{List, [], _∷_}
 use mathlib.Core.Logic.{_⊎_, inl, inr}
@@ -22,7 +22,7 @@ use Rattle.tables.proofs.Kept.{change-kept, trim-kept}
 use Rattle.intake.specs.declared.e820.Entry.{Entry}
 use Rattle.intake.specs.declared.e820.Becomes.{Becomes}
 use Rattle.intake.specs.declared.e820.Becomes.the-variants.{Added, PassedOver}
-use Rattle.intake.specs.E820.{entries, readable, becomes, takeAs, entrySteps, intakeE820}
+use Rattle.intake.specs.E820.{entries, readable, becomes, takeAs, takeEntry, entrySteps, intakeE820}
 use Rattle.intake.specs.Turns.{inTurn, wholly}
 use Rattle.intake.proofs.Turns.{turn-last}
 
@@ -50,6 +50,14 @@ module _ (b : List ℕ) (g : good current b ≡ true) where
   pub trim-sound : Sound (trim current 4096 b)
   unfolding trim powerBelow
   trim-sound = rw g (record { isGood = trim-kept current small-current b g 4096 (omega arith) .isGood; number = inl refl })
+
+-- an entry leaves a good block
+pub entry-good : (e : Entry) (b : List ℕ) → good current b ≡ true → (x : ℕ) (c : List ℕ) → outcome x c ≡ takeEntry current e b → good current c ≡ true
+entry-good e b g x c o = rw (ap (λ (y : Outcome). y .block) o) (go (becomes (e .kind)))
+  where
+    go : (k : Becomes) → good current (takeAs k current e b .block) ≡ true
+    go PassedOver = g
+    go Added = add-sound b g (e .base .0) (e .size .0) .isGood
 
 -- ---- in turn, and whole
 

@@ -1,21 +1,17 @@
 -- A report is taken in whole or not at all: refusals in their order, and the block put back. Assumes nothing.
 use Prim.Native.Nat.{ℕ, _/_, _%_, _≤_, _<_}
-use mathlib.Core.Path.{_≡_, refl, sym, ap, _∙_}
-use mathlib.Core.Bool.{Bool, true, false}
+use mathlib.Core.Path.{_≡_, refl, ap, _∙_}
+use mathlib.Core.Bool.{Bool, true, false, not}
 use mathlib.Core.List.{List, [], _++_, append-nil}
 use native.Mathlib.Omega.{arith}
 use lib.Dec.{eqb}
 use lib.ListN.{length, take, drop}
 use lib.Seq.{take-all, drop-length}
 use borrow.Author.Tests.{eq-eqb, ne-eqb, le-leb, lt-leb, eqb-true, eqb-false}
-use Rattle.address.proofs.Tests.{no}
-use Rattle.regions.specs.declared.Kind.the-variants.{Memory}
-use Rattle.regions.specs.declared.Change.the-variants.{Fill}
-use Rattle.regions.specs.Lists.{legalTag}
+use Rattle.tables.specs.declared.block.Layout.{Layout}
 use Rattle.tables.specs.Block.{current, good}
-use Rattle.tables.specs.Commands.{Outcome, outcome, done, unless, tag, add}
-use Rattle.tables.proofs.Blocks.{good-length}
-use Rattle.tables.proofs.Unchanged.{size-zero}
+use Rattle.tables.specs.Commands.{Outcome, outcome, unless}
+use Rattle.tables.proofs.Blocks.{good-length, good-here, bad-here}
 use Rattle.intake.specs.E820.{entries, readable, entrySteps, intakeE820}
 use Rattle.intake.specs.Turns.{Step, inTurn, wholly}
 
@@ -42,51 +38,30 @@ module _ (ss : List Step) (n : ℕ) (b : List ℕ) (len : length b ≡ n) (x : �
 
 -- ---- the checks
 
--- a range of size 0 changes nothing
-add-nothing : (b : List ℕ) → good current b ≡ true → add current 0 0 0 0 b ≡ done b
-unfolding add legalTag
-add-nothing b g = rw g (size-zero current b g Memory (Fill (tag 0 0)) 0)
-
-add-bad : (b : List ℕ) → good current b ≡ false → add current 0 0 0 0 b ≡ outcome 1 b
-unfolding add
-add-bad b g = rw g
-
-module _ (b : List ℕ) (x : ℕ) (c : List ℕ) (o : outcome x c ≡ add current 0 0 0 0 b) (r : List ℕ) where
-  pub not-good : (x ≡ 0 → ⊥) → outcome x c ≡ intakeE820 current r b
+module _ (L : Layout) (w : L ≡ current) (b : List ℕ) (g : Bool) (q : g ≡ good L b) (r : List ℕ) where
+  pub not-good : not g ≡ true → outcome 1 b ≡ intakeE820 current r b
   unfolding intakeE820
-  not-good h =
-      let f : good current b ≡ false = no (good current b) (λ g. h (ap (λ (y : Outcome). y .number) (o ∙ add-nothing b g))) in
-      rw f (o ∙ add-bad b f)
+  not-good h = rw (bad-here L w b g q h)
 
-  module _ (h : x ≡ 0) where
-    is-good : good current b ≡ true
-    is-good = go (good current b) refl
-      where
-        go : (t : Bool) → good current b ≡ t → good current b ≡ true
-        go true g = g
-        go false g =
-            let z : _≡_ {A = ℕ} 0 1 = sym h ∙ ap (λ (y : Outcome). y .number) (o ∙ add-bad b g) in
-            let f : ⊥ = omega arith in
-            absurd f
+  module _ (h : not g ≡ false) where
+    pub is-good : good current b ≡ true
+    is-good = good-here L w b g q h
 
-    as-lent : c ≡ b
-    as-lent = ap (λ (y : Outcome). y .block) (o ∙ add-nothing b is-good)
+    pub block-length : length b ≡ 6224
+    block-length = good-length current b is-good
 
-    pub block-length : length c ≡ 6224
-    block-length = ap length as-lent ∙ good-length current b is-good
-
-    pub ragged : (length r % 20 ≡ 0 → ⊥) → outcome 10 c ≡ intakeE820 current r b
+    pub ragged : (length r % 20 ≡ 0 → ⊥) → outcome 10 b ≡ intakeE820 current r b
     unfolding intakeE820 readable
-    ragged n = rw (is-good, ne-eqb (length r % 20) 0 n, as-lent)
+    ragged n = rw (is-good, ne-eqb (length r % 20) 0 n)
 
     module _ (e : length r % 20 ≡ 0) where
-      pub too-long : 128 < length r / 20 → outcome 10 c ≡ intakeE820 current r b
+      pub too-long : 128 < length r / 20 → outcome 10 b ≡ intakeE820 current r b
       unfolding intakeE820 readable
-      too-long n = rw (is-good, eq-eqb (length r % 20) 0 e, lt-leb (length r / 20) 128 n, as-lent)
+      too-long n = rw (is-good, eq-eqb (length r % 20) 0 e, lt-leb (length r / 20) 128 n)
 
-      pub taken-in : length r / 20 ≤ 128 → (p : Outcome) → p ≡ wholly (entrySteps current (entries r)) c → p ≡ intakeE820 current r b
+      pub taken-in : length r / 20 ≤ 128 → (p : Outcome) → p ≡ wholly (entrySteps current (entries r)) b → p ≡ intakeE820 current r b
       unfolding intakeE820 readable
-      taken-in n p q = rw (is-good, eq-eqb (length r % 20) 0 e, le-leb (length r / 20) 128 n) (q ∙ ap (wholly (entrySteps current (entries r))) as-lent)
+      taken-in n p q = rw (is-good, eq-eqb (length r % 20) 0 e, le-leb (length r / 20) 128 n) q
 
 -- ---- a report that was taken in
 

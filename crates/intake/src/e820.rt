@@ -4,13 +4,16 @@ use address::Size;
 use regions::Tag;
 use regions::bytes::get_u32;
 use regions::bytes::get_u64;
-use tables::commands::add;
-use tables::commands::trim;
+use tables::block::block_good;
+use tables::block::current_layout;
+use tables::commands::add_on_good;
+use tables::commands::trim_on_good;
 use tables::table::copy_front;
 ghost use mathlib.Core.Path.{_≡_};
 ghost use Prim.Native.Nat.{_+_, _≤_};
 ghost use lib.ListN.{length, drop};
-ghost use Rattle.tables.specs.Block.{current};
+ghost use mathlib.Core.Bool.{true};
+ghost use Rattle.tables.specs.Block.{current, good};
 ghost use Rattle.tables.specs.Commands.{outcome};
 ghost use Rattle.intake.specs.E820.{readEntry, entries, becomes as becomesOf, takeEntry, entrySteps, intakeE820};
 ghost use Rattle.intake.specs.Turns.{inTurn, wholly};
@@ -71,20 +74,23 @@ fn get_entry(report: &[u8], at: usize) -> Entry
     }
 }
 
-// One entry on a block.
+// One entry on a good block.
 fn take_entry(block: &mut [u8], entry: Entry) -> u32
+    requires { ⌜ good current (now block) ≡ true ⌝ }
     ensures { λ r. ⌜ outcome r (now (block .exit)) ≡ takeEntry current entry (now (block .entry)) ⌝ }
 {
     let base = entry.base;
     let size = entry.size;
+    let plain = Tag { flags: 0, node: 0 };
     match entry.becomes() {
-        Becomes::Added => add(block, base, size, Tag { flags: 0, node: 0 }),
+        Becomes::Added => add_on_good(block, base, size, plain),
         Becomes::PassedOver => 0,
     }
 }
 
 // The entries in turn, then memory trimmed by 4096; the first refusal ends it.
 fn take_in_turn(block: &mut [u8], report: &[u8]) -> u32
+    requires { ⌜ good current (now block) ≡ true ⌝ }
     ensures { λ r. ⌜ outcome r (now (block .exit)) ≡ inTurn (entrySteps current (entries (now (report .entry)))) (now (block .entry)) ⌝ }
 {
     let count = report.len() / 20;
@@ -96,12 +102,13 @@ fn take_in_turn(block: &mut [u8], report: &[u8]) -> u32
         }
         i += 1;
     }
-    trim(block, Size(4096))
+    trim_on_good(block, Size(4096));
+    0
 }
 
 // The same, whole or not at all: a copy of the block is kept on the stack, and put back after a refusal.
 fn take_wholly(block: &mut [u8], report: &[u8]) -> u32
-    requires { ⌜ length (now block) ≡ 6224 ⌝ }
+    requires { ⌜ (length (now block) ≡ 6224) × (good current (now block) ≡ true) ⌝ }
     ensures { λ r. ⌜ outcome r (now (block .exit)) ≡ wholly (entrySteps current (entries (now (report .entry)))) (now (block .entry)) ⌝ }
 {
     let mut kept = [0u8; BLOCK];
@@ -114,13 +121,12 @@ fn take_wholly(block: &mut [u8], report: &[u8]) -> u32
     0
 }
 
-// Takes a report in. Adding a range of size 0 changes nothing and answers 1 exactly when the block is not good.
+// Takes a report in. Whether the block is good is asked once: add and trim leave a good one.
 pub fn intake(block: &mut [u8], report: &[u8]) -> u32
     ensures { λ r. ⌜ outcome r (now (block .exit)) ≡ intakeE820 current (now (report .entry)) (now (block .entry)) ⌝ }
 {
-    let number = add(block, Address(0), Size(0), Tag { flags: 0, node: 0 });
-    if number != 0 {
-        return number;
+    if !block_good(block, current_layout()) {
+        return 1;
     }
     if report.len() % 20 != 0 {
         return 10;

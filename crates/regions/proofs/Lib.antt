@@ -14,4 +14,7 @@ pub mod Twins
 pub mod Update
 pub mod Trim
 pub mod Free
+pub mod Few
 pub mod Fewest
+pub mod Middle
+pub mod Gap

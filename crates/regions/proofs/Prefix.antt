@@ -16,7 +16,7 @@ unfolding reach
 first-rises [] zs {c = c} w = let h : c ≤ c = omega arith in done h
 first-rises (r ∷ ys) zs (next k w) = next k (first-rises ys zs w)
 
-reach-le : (ys : List Region) {c n : ℕ} {v : State} → Rises c v n ys → c ≤ reach c ys
+pub reach-le : (ys : List Region) {c n : ℕ} {v : State} → Rises c v n ys → c ≤ reach c ys
 unfolding reach
 reach-le [] w = omega arith
 reach-le (r ∷ ys) (next k w) = omega (arith, reach-le ys w)

@@ -71,7 +71,7 @@ join-join (r ∷ q ∷ rs) c s u t =
 
 -- ---- a stretch in one step
 
-push-none : (xs : List Region) (c : ℕ) (v : State) → push xs c 0 v ≡ xs
+pub push-none : (xs : List Region) (c : ℕ) (v : State) → push xs c 0 v ≡ xs
 unfolding push
 push-none xs c Absent = refl
 push-none xs c (Present t) = refl

@@ -25,7 +25,7 @@ pub record Fit (r : Region) : Type 0 where
   pub flags : r .tag .flags < 2 ^ 32
   pub node : r .tag .node < 2 ^ 32
 
-region-bytes-length : (r : Region) → length (regionBytes r) ≡ 24
+pub region-bytes-length : (r : Region) → length (regionBytes r) ≡ 24
 unfolding regionBytes
 region-bytes-length r = simp (length-append, bytes-length)
 

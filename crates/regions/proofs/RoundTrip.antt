@@ -91,7 +91,7 @@ push-present xs c (suc s) t h = refl
 abbrev pub Stops : List Region → ℕ → State → Type 0
 Stops ys c v = (b s : ℕ) (t : Tag) → c ≤ b → (c ≡ b → v ≡ Present t → ⊥) → join ys b s t ≡ ys ++ (region b s t ∷ [])
 
-stops-snoc : (ys : List Region) (r : Region) → Stops (ys ++ (r ∷ [])) (end r) (Present (r .tag))
+pub stops-snoc : (ys : List Region) (r : Region) → Stops (ys ++ (r ∷ [])) (end r) (Present (r .tag))
 unfolding join
 stops-snoc ys r b s t l u = join-snoc ys r b s t ∙ go (joins r b t) refl
   where

@@ -1,7 +1,7 @@
 -- The walk over the list makes the shortest list of the changed meaning. Assumes nothing.
 use Prim.Native.Nat.{ℕ, _-_, _≤_, _<_, min, max}
 use mathlib.Core.Path.{_≡_, refl, sym, ap, _∙_}
-use mathlib.Core.List.{List, _++_}
+use mathlib.Core.List.{List}
 use native.Mathlib.Omega.{arith}
 use Rattle.regions.specs.declared.Region.{Region}
 use Rattle.regions.specs.declared.State.{State}
@@ -10,10 +10,9 @@ use Rattle.regions.specs.Meaning.{Meaning, end, at, push, shortest}
 use Rattle.regions.specs.Changes.{after}
 use Rattle.regions.specs.Steps.{stretch}
 use Rattle.regions.proofs.Twins.{walk, update}
-use Rattle.regions.proofs.Rises.{Rises, done, next, Canonical, reach}
+use Rattle.regions.proofs.Rises.{Rises, done, next, Canonical}
 use Rattle.regions.proofs.Push.{push-to}
 use Rattle.regions.proofs.RoundTrip.{canonical-shortest, at-shortest, inside-yes, inside-below, inside-past, at-here, at-before, at-past, rises-end, rises-below, push-absent}
-use Rattle.regions.proofs.Prefix.{start-behind, rest-rises, rest-at}
 
 module _ (k : State → State) (lo hi : ℕ) (f : Meaning) where
   after-in : (a : ℕ) → lo ≤ a → a < hi → after k lo hi f a ≡ k (f a)
@@ -59,13 +58,6 @@ pub update-shortest : (k : State → State) (lo hi n : ℕ) (xs : List Region) �
     → update k lo hi xs ≡ shortest (after k lo hi (at xs)) n
 unfolding update shortest
 update-shortest k lo hi n xs w b q = walk-shortest k lo hi (at xs) w q b (λ a i j. refl)
-
--- the walk may start behind the regions ys that end at or below lo
-pub update-from : (k : State → State) (lo hi n : ℕ) (ys zs : List Region) → lo ≤ hi → hi ≤ n → Canonical n (ys ++ zs) → reach 0 ys ≤ lo
-    → walk k lo hi ys (reach 0 ys) zs ≡ shortest (after k lo hi (at (ys ++ zs))) n
-update-from k lo hi n ys zs w b q h =
-    ap (λ (x : List Region). walk k lo hi x (reach 0 ys) zs) (sym (start-behind k lo hi n ys zs q h))
-    ∙ walk-shortest k lo hi (at (ys ++ zs)) w (rest-rises ys zs q) b (λ a i j. rest-at ys zs a q i)
 
 pub update-canonical : (k : State → State) (lo hi n : ℕ) (xs : List Region) → lo ≤ hi → hi ≤ n → Canonical n xs → Canonical n (update k lo hi xs)
 update-canonical k lo hi n xs l m w = rw (update-shortest k lo hi n xs l m w) (canonical-shortest (after k lo hi (at xs)) n)

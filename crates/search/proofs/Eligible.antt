@@ -12,13 +12,14 @@ use Rattle.address.proofs.Tests.{both, and, le-or-lt}
 use Rattle.regions.specs.declared.Tag.{Tag}
 use Rattle.regions.specs.declared.Region.{Region}
 use Rattle.regions.specs.declared.State.{State}
-use Rattle.regions.specs.declared.State.the-variants.{Present}
+use Rattle.regions.specs.declared.State.the-variants.{Absent, Present}
 use Rattle.regions.specs.Meaning.{Meaning, end, at, shortest, top}
-use Rattle.regions.specs.Free.{free, freeRuns}
+use Rattle.regions.specs.Free.{usable, untaken, free, freeRuns}
 use Rattle.regions.proofs.Rises.{Rises, done, next}
 use Rattle.regions.proofs.RoundTrip.{rises-end, rises-below, at-here, at-before, at-past, at-shortest, canonical-shortest}
 use Rattle.regions.proofs.Trim.{rises-apart}
 use Rattle.tables.specs.Block.{Contents}
+use Rattle.tables.specs.Steps.{Vacant}
 use Rattle.search.specs.declared.Query.{Query}
 use Rattle.search.specs.Search.{asked, holds, inOne, eligible, window, runsOf, found}
 use Rattle.search.proofs.Extremes.{Gives, lowest-gives, highest-gives}
@@ -128,6 +129,16 @@ pub eligible-below : (q : Query) (s : Contents) (a : ℕ) → 0 < q .size .0 →
 unfolding freeRuns
 eligible-below q s a h e =
     one-run-in (free (at (s .memory)) (at (s .taken))) (q .node) (q .size .0) a h (eligible-lies q (runsOf s) a e .run) .0
+
+-- none of the addresses from an eligible one on is taken
+pub eligible-vacant : (q : Query) (s : Contents) (a : ℕ) → 0 < q .size .0 → eligible q (runsOf s) a ≡ true → Vacant a (a + q .size .0) (s .taken)
+unfolding freeRuns free
+eligible-vacant q s a h e b i j =
+    go (at (s .taken) b) (one-run-in (free (at (s .memory)) (at (s .taken))) (q .node) (q .size .0) a h (eligible-lies q (runsOf s) a e .run) .1 .all b i j)
+  where
+    go : {t : Tag} (v : State) → untaken (usable (at (s .memory) b)) v ≡ Present t → v ≡ Absent
+    go Absent f = refl
+    go (Present u) f = let z : _≡_ {A = ℕ} 0 1 = cc in absurd (omega arith)
 
 -- bottom-up, find gives the lowest eligible address, and none exactly when there is none
 pub found-lowest : (s : Contents) (q : Query) → s .direction ≡ 1 → Gives (eligible (window (s .limit) q) (runsOf s)) (λ b a. b < a) top (found s q)

@@ -158,6 +158,17 @@ module _ (q : Query) (lo hi : Address) where
   unfolding fitLow
   fit-low-yes a e h = rw (le-leb (lowAt q (lo .0) + q .size .0) (min (hi .0) (q .end .0)) h) (ap (λ (x : Address). Here x hi) (λ i. record { 0 = e i }))
 
+  -- a stretch that is too short for the size, whatever the alignment
+  module _ (from to : Address) (later : from .0 ≡ max (lo .0) (q .start .0)) (m : to .0 ≡ min (hi .0) (q .end .0)) (l : 0 < q .align .0) where
+    low-at : from .0 ≤ lowAt q (lo .0)
+    low-at = omega (arith, up-ge (max (lo .0) (q .start .0)) (q .align .0) l)
+
+    pub low-none : to .0 < from .0 → Nowhere ≡ placeOf (fitLow q (lo .0) (hi .0))
+    low-none h = fit-low-no (omega (arith, low-at))
+
+    pub low-short : from .0 ≤ to .0 → to .0 - from .0 < q .size .0 → Nowhere ≡ placeOf (fitLow q (lo .0) (hi .0))
+    low-short h k = fit-low-no (omega (arith, low-at))
+
   module _ (from : Address) (u : CheckedAddress) (later : from .0 ≡ max (lo .0) (q .start .0)) (rounded : u ≡ address (up (from .0) (q .align .0))) where
     up-is : up (from .0) (q .align .0) ≡ lowAt q (lo .0)
     up-is = ap (λ (x : ℕ). up x (q .align .0)) later
@@ -204,6 +215,13 @@ module _ (q : Query) (lo hi from to : Address) (u : CheckedAddress) (later : fro
   high-none e =
       let z = less-outside (to .0) (q .size .0) u less e in
       rw (lt-leb (q .size .0) (min (hi .0) (q .end .0)) (omega arith))
+
+  pub high-narrow : (last : Address) → 0 < q .align .0 → u ≡ checked.At last → last .0 < from .0 → Nothing ≡ foundOf (fitHigh q (lo .0) (hi .0))
+  unfolding fitHigh
+  high-narrow last l is h =
+      let z = less-at (to .0) (q .size .0) u last less is in
+      let y : highAt q (hi .0) ≤ min (hi .0) (q .end .0) - q .size .0 = down-le (min (hi .0) (q .end .0) - q .size .0) (q .align .0) l in
+      rw (le-leb (q .size .0) (min (hi .0) (q .end .0)) (omega arith), lt-leb (max (lo .0) (q .start .0)) (highAt q (hi .0)) (omega arith))
 
   module _ (last a : Address) (is : u ≡ checked.At last) (rounded : a .0 ≡ down (last .0) (q .align .0)) where
     place : (a .0 ≡ highAt q (hi .0)) × (leb (q .size .0) (min (hi .0) (q .end .0)) ≡ true)

@@ -8,27 +8,28 @@ use crate::find::put_slip;
 use crate::fit::Found;
 use address::Address;
 use address::Size;
-use regions::Change;
 use regions::Kind;
 use regions::Tag;
-use tables::range::change_range;
+use tables::range::fill_range;
 ghost use mathlib.Core.Path.{_≡_};
 ghost use mathlib.Core.Bool.{true};
-ghost use Prim.Native.Nat.{_+_, _^_, _<_};
+ghost use Prim.Native.Nat.{_+_, _<_, _≤_};
 ghost use lib.ListN.{replicate};
 ghost use Rattle.regions.specs.declared.Kind.the-variants.{Taken};
 ghost use Rattle.regions.specs.declared.Change.the-variants.{Fill};
-ghost use Rattle.tables.specs.Block.{current, good};
+ghost use Rattle.tables.specs.Block.{current, contents, good};
+ghost use Rattle.regions.specs.Meaning.{top};
+ghost use Rattle.tables.specs.Steps.{Vacant};
 ghost use Rattle.tables.specs.Commands.{tag, changeRange};
 ghost use Rattle.search.specs.Answers.{answer, reserved, allocate as allocateSpec};
 
-// Reserves `size` addresses from `a` on, which were found in a good block, and writes the slip, which is all zero.
+// Reserves `size` addresses from `a` on, none of which is taken in a good block, and writes the slip, which is all zero.
 fn take_found(block: &mut [u8], a: Address, size: Size, slip: &mut [u8]) -> u32
-    requires { ⌜ (good current (now block) ≡ true) × ((a .0 + size .0 < 2 ^ 64) × (now slip ≡ replicate 16 0)) ⌝ }
+    requires { ⌜ (good current (now block) ≡ true) × (((0 < size .0) × ((a .0 + size .0 ≤ top) × Vacant (a .0) (a .0 + size .0) (contents current (now block) .taken))) × (now slip ≡ replicate 16 0)) ⌝ }
     ensures { λ r. ⌜ answer r (now (block .exit)) (now (slip .exit)) ≡ reserved (now (block .entry)) (a .0) (size .0) (changeRange current Taken (Fill (tag 0 0)) (a .0) (size .0) (now (block .entry))) ⌝ }
 {
     let plain = Tag { flags: 0, node: 0 };
-    let number = change_range(block, Kind::Taken, Change::Fill(plain), a, size);
+    let number = fill_range(block, Kind::Taken, plain, a, size);
     if number != 0 {
         return number;
     }

@@ -43,6 +43,12 @@ pub fn fit_low(lo: Address, hi: Address, q: Query) -> Place
     let align = q.align;
     let from = lo.max(start);
     let to = hi.min(end);
+    if to.0 < from.0 {
+        return Place::Nowhere;
+    }
+    if to.0 - from.0 < size.0 {
+        return Place::Nowhere;
+    }
     let CheckedAddress::At(a) = from.up(align) else {
         return Place::Nowhere;
     };
@@ -69,6 +75,9 @@ pub fn fit_high(lo: Address, hi: Address, q: Query) -> Found
     let CheckedAddress::At(last) = to.minus(size) else {
         return Found::Nothing;
     };
+    if last.0 < from.0 {
+        return Found::Nothing;
+    }
     let a = last.down(align);
     if a.0 < from.0 {
         return Found::Nothing;

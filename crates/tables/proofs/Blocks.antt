@@ -145,6 +145,13 @@ module _ (L : Layout) (b : List ℕ) where
     good-length = rw (← good-spelled) (block-length L (contents L b) good-contents)
 
     -- a good table's part passes its check
+    pub part-zeros : (k : Kind) (n : ℕ) → listOf (contents L b) k ≡ readRegions n (part L k b) → zeros (drop (24 * n) (part L k b)) ≡ true
+    part-zeros k n e =
+        let s = contents L b in
+        let m : length (listOf s k) ≡ n = ap (length {A = Region}) e ∙ read-regions-length n (part L k b) in
+        let x : part L k b ≡ tableBytes (capacity L k) (listOf s k) = ap (part L k) (sym good-spelled) ∙ part-is L s good-contents k in
+        rw (← m, x) (table-tail (capacity L k) (listOf s k))
+
     part-good : (k : Kind) (n : ℕ) → listOf (contents L b) k ≡ readRegions n (part L k b) → goodPart k n (part L k b) ≡ true
     unfolding goodPart
     part-good k n e =

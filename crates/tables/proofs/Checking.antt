@@ -1,10 +1,11 @@
 -- The walk over a table's records that checks and sums them, step by step. Assumes nothing.
-use Prim.Native.Nat.{ℕ, _+_, _*_, _-_, _/_, _^_, _≤_, _<_}
+use Prim.Native.Nat.{ℕ, _+_, _*_, _-_, _/_, _%_, _^_, _≤_, _<_}
 use mathlib.Core.Path.{_≡_, refl, sym, ap, _∙_}
 use mathlib.Core.Bool.{Bool, true, false, not, cond, _&&_, and-false}
 use mathlib.Core.List.{List, [], _∷_}
 use native.Mathlib.Omega.{arith}
-use native.Mathlib.Nat.{sub-zero}
+use mathlib.Core.Logic.{_⊎_, inl, inr}
+use native.Mathlib.Nat.{sub-zero, mod-eq-of-lt, mod-eq-sub-mod}
 use lib.ListN.{length, drop}
 use borrow.Author.Tests.{le-leb, lt-leb, not-true, not-false}
 use Rattle.address.specs.declared.Address.{Address}
@@ -12,15 +13,17 @@ use Rattle.address.specs.declared.Size.{Size}
 use Rattle.address.specs.Numbers.{address, size}
 use Rattle.address.specs.declared.CheckedAddress.{CheckedAddress}
 use Rattle.address.specs.declared.CheckedSize.{CheckedSize}
-use Rattle.address.proofs.Checked.{address-at, address-outside, size-of, size-outside}
 use Rattle.regions.specs.declared.Region.{Region}
 use Rattle.regions.specs.declared.Kind.{Kind}
 use Rattle.regions.specs.declared.State.{State}
 use Rattle.regions.specs.declared.State.the-variants.{Absent, Present}
 use Rattle.regions.specs.Meaning.{end, at, total, top, top-is}
-use Rattle.regions.specs.Lists.{fits, rises, legal, legalTag, goodList}
+use Rattle.regions.specs.Lists.{is, fits, rises, legal, legalTag, goodList}
 use Rattle.regions.specs.Bytes.{readRegion, readRegions}
+use Rattle.address.proofs.Tests.{le-or-lt}
 use Rattle.regions.proofs.Rises.{Fits, fits-Fits}
+use Rattle.regions.proofs.Fitting.{fits-empty, fits-below, fits-above, fits-touch}
+use Rattle.regions.proofs.Numbers.{Bytes, number-lt, bytes-drop}
 use Rattle.regions.proofs.Count.{sizes}
 use Rattle.regions.proofs.Good.{good-rises, total-is-sizes, rises-past}
 use Rattle.regions.proofs.Records.{read-regions-rest, read-regions-end}
@@ -92,37 +95,67 @@ module _ (k : Kind) (l : List ℕ) (n : ℕ) where
   pub records-start : Along k (readRegions n l) (readRegions (n - 0) (drop (24 * 0) l)) 0 Absent 0
   records-start = rw sub-zero (along-start k (readRegions n l))
 
-  module _ (i : ℕ) (low : Address) (below : State) (sum : Size)
-      (a : Along k (readRegions n l) (readRegions (n - i) (drop (24 * i) l)) (low .0) below (sum .0)) where
-    pub records-done : n ≤ i → Total sum ≡ checkedList k (readRegions n l)
-    records-done h = along-done k (readRegions n l) _ (low .0) below (sum .0) a sum (read-regions-end i n (drop (24 * i) l) h) refl
+  module _ (i low : ℕ) (below : State) (sum : ℕ) (a : Along k (readRegions n l) (readRegions (n - i) (drop (24 * i) l)) low below sum) where
+    pub records-done : n ≤ i → Total (record { 0 = sum }) ≡ checkedList k (readRegions n l)
+    records-done h = along-done k (readRegions n l) _ low below sum a (record { 0 = sum }) (read-regions-end i n (drop (24 * i) l) h) refl
 
     module _ (r : Region) (h : i < n) (e : r ≡ readRegion (drop (24 * i) l)) where
       rest : readRegions (n - i) (drop (24 * i) l) ≡ r ∷ readRegions (n - (i + 1)) (drop (24 * (i + 1)) l)
       rest = rw e (read-regions-rest i n l h)
 
       pub records-tag : (b : Bool) → b ≡ legalTag k (r .tag) → not b ≡ true → Bad ≡ checkedList k (readRegions n l)
-      records-tag = along-tag k (readRegions n l) _ (low .0) below (sum .0) a r _ rest
+      records-tag = along-tag k (readRegions n l) _ low below sum a r _ rest
 
-      pub records-fit : (b : Bool) → b ≡ fits (low .0) below r → not b ≡ true → Bad ≡ checkedList k (readRegions n l)
-      records-fit = along-fit k (readRegions n l) _ (low .0) below (sum .0) a r _ rest
+      bounds : Bytes l → (r .base .0 < 18446744073709551616) × (r .size .0 < 18446744073709551616)
+      unfolding readRegion
+      bounds bs = rw e (number-lt 8 (drop (24 * i) l) (bytes-drop (24 * i) l bs), number-lt 8 (drop 8 (drop (24 * i) l)) (bytes-drop 8 (drop (24 * i) l) (bytes-drop (24 * i) l bs)))
 
-      pub records-end : (x : CheckedAddress) → x ≡ address (end r) → x ≡ Address.Outside → Bad ≡ checkedList k (readRegions n l)
-      records-end x q f = along-end k (readRegions n l) _ (low .0) below (sum .0) a r _ rest (address-outside (end r) x q f)
+      misfit : false ≡ fits low below r → Bad ≡ checkedList k (readRegions n l)
+      misfit q = along-fit k (readRegions n l) _ low below sum a r _ rest false q refl
 
-      module _ (b : Bool) (q : b ≡ fits (low .0) below r) (t : not b ≡ false) (x : CheckedAddress) (o : Address) (p : x ≡ address (end r)) (f : x ≡ Address.At o)
-          (y : CheckedSize) (u : y ≡ size (sum .0 + r .size .0)) where
-        pub records-sum : y ≡ Size.Outside → Bad ≡ checkedList k (readRegions n l)
-        records-sum g =
-            let s = along-sum k (readRegions n l) _ (low .0) below (sum .0) a r _ rest b q t (address-at (end r) x o p f .1) in
-            absurd (omega (arith, size-outside (sum .0 + r .size .0) y u g))
+      pub records-low : r .base .0 < low → Bad ≡ checkedList k (readRegions n l)
+      records-low f = misfit (fits-below low below r f)
 
-        pub records-next : (d : Bool) → d ≡ legalTag k (r .tag) → not d ≡ false → (s : Size) → y ≡ Size.Of s
-            → Along k (readRegions n l) (readRegions (n - (i + 1)) (drop (24 * (i + 1)) l)) (o .0) (Present (r .tag)) (s .0)
-        records-next d v w s g =
-            let m = address-at (end r) x o p f in
-            rw (m .0, size-of (sum .0 + r .size .0) y s u g .0)
-            (along-next k (readRegions n l) _ (low .0) below (sum .0) a r _ rest b q t d v w (m .1))
+      module _ (x : ℕ) (w : x ≡ (r .base .0 + r .size .0) % 18446744073709551616) where
+        -- a sum that wraps, or a size of 0, does not pass the base
+        pub records-past : x ≤ r .base .0 → Bad ≡ checkedList k (readRegions n l)
+        records-past f = go (le-or-lt 18446744073709551616 (end r))
+          where
+            go : (18446744073709551616 ≤ end r) ⊎ (end r < 18446744073709551616) → Bad ≡ checkedList k (readRegions n l)
+            go (inl g) = along-end k (readRegions n l) _ low below sum a r _ rest g
+            go (inr g) = misfit (fits-empty low below r (omega (arith, w, mod-eq-of-lt g)))
+
+        module _ (bs : Bytes l) (f : r .base .0 < x) where
+          -- one that does is the end
+          past-end : (x ≡ end r) × (end r < 18446744073709551616)
+          past-end = go (le-or-lt 18446744073709551616 (end r))
+            where
+              go : (18446744073709551616 ≤ end r) ⊎ (end r < 18446744073709551616) → (x ≡ end r) × (end r < 18446744073709551616)
+              go (inl g) =
+                  let b = bounds bs in
+                  let m : end r - 18446744073709551616 < 18446744073709551616 = omega arith in
+                  absurd (omega (arith, w, mod-eq-sub-mod g, mod-eq-of-lt m))
+              go (inr g) = (w ∙ mod-eq-of-lt g, g)
+
+          some : r .size .0 ≡ 0 → ⊥
+          some z = omega (arith, past-end .0)
+
+          pub records-touch : (b : Bool) → low ≤ r .base .0 → r .base .0 ≤ low → b ≡ is below (r .tag) → b ≡ true → Bad ≡ checkedList k (readRegions n l)
+          records-touch b g m q t = misfit (rw t at (fits-touch low below r b some g m q))
+
+          pub fit-level : (b : Bool) → low ≤ r .base .0 → r .base .0 ≤ low → b ≡ is below (r .tag) → b ≡ false → true ≡ fits low below r
+          fit-level b g m q t = rw t at (fits-touch low below r b some g m q)
+
+          pub fit-above : low < r .base .0 → true ≡ fits low below r
+          fit-above g = fits-above low below r some g
+
+          module _ (q : true ≡ fits low below r) where
+            pub records-room : sum + r .size .0 < 18446744073709551616
+            records-room = along-sum k (readRegions n l) _ low below sum a r _ rest true q refl (past-end .1)
+
+            pub records-next : (d : Bool) → d ≡ legalTag k (r .tag) → not d ≡ false
+                → Along k (readRegions n l) (readRegions (n - (i + 1)) (drop (24 * (i + 1)) l)) x (Present (r .tag)) (sum + r .size .0)
+            records-next d v u = rw (past-end .0) (along-next k (readRegions n l) _ low below sum a r _ rest true q refl d v u (past-end .1))
 
 -- ---- the whole part
 

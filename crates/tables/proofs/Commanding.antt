@@ -35,9 +35,14 @@ module _ (l : Layout) (is : l ≡ current) (b : List ℕ) (g : Bool) (q : g ≡ 
       unfolding add
       add-tag u = rw (good-here l is b g q n, ← p, not-true x u)
 
-      pub add-good : (o : Outcome) → not x ≡ false → o ≡ changeRange current Memory (Fill t) base size b → o ≡ add current base size (t .flags) (t .node) b
-      unfolding add
-      add-good o u e = rw (good-here l is b g q n, ← p, not-false x u) e
+      pub tag-legal : not x ≡ false → legalTag Memory t ≡ true
+      tag-legal u = sym p ∙ not-false x u
+
+-- past its checks, add is the change
+pub add-changes : (b : List ℕ) (base size : ℕ) (t : Tag) → good current b ≡ true → legalTag Memory t ≡ true → (o : Outcome) → o ≡ changeRange current Memory (Fill t) base size b
+    → o ≡ add current base size (t .flags) (t .node) b
+unfolding add
+add-changes b base size t g h o e = rw (g, h) e
 
 -- the five that have no tag to check
 module _ (base size : ℕ) (b : List ℕ) (o : Outcome) where
@@ -64,10 +69,16 @@ module _ (base size : ℕ) (b : List ℕ) (o : Outcome) where
 -- ---- trim
 
 -- a power of two is not 0
-pub power-some : (k : ℕ) (x : Bool) → x ≡ powerOfTwo k → not x ≡ false → 0 < k
-power-some k x e t =
-    let p = power-is 64 k (sym e ∙ not-false x t) in
+pub power-some : (k : ℕ) → powerOfTwo k ≡ true → 0 < k
+power-some k e =
+    let p = power-is 64 k e in
     omega (arith, pow-pos (p .0), p .2)
+
+-- past its checks, trim is the trimmed list
+pub trim-changes : (b : List ℕ) (k : ℕ) → good current b ≡ true → powerOfTwo k ≡ true → (z : List ℕ) → z ≡ blockBytes current (withList (contents current b) Memory (trimmedList k (contents current b .memory)))
+    → outcome 0 z ≡ trim current k b
+unfolding trim
+trim-changes b k g h z e = rw (g, h, e)
 
 module _ (l : Layout) (is : l ≡ current) (b : List ℕ) (g : Bool) (q : g ≡ good l b) (k : ℕ) where
   pub trim-bad : not g ≡ true → outcome 1 b ≡ trim current k b
@@ -79,7 +90,5 @@ module _ (l : Layout) (is : l ≡ current) (b : List ℕ) (g : Bool) (q : g ≡ 
     unfolding trim
     trim-power u = rw (good-here l is b g q n, ← p, not-true x u)
 
-    pub trim-good : not x ≡ false → (z : List ℕ) → z ≡ blockBytes current (withList (contents current b) Memory (trimmedList k (contents current b .memory)))
-        → outcome 0 z ≡ trim current k b
-    unfolding trim
-    trim-good u z e = rw (good-here l is b g q n, ← p, not-false x u, e)
+    pub power-right : not x ≡ false → powerOfTwo k ≡ true
+    power-right u = sym p ∙ not-false x u

@@ -13,6 +13,12 @@ pub mod Pushing
 pub mod Placing
 pub mod Halving
 pub mod Copying
+pub mod Moving
+pub mod Replacing
+pub mod Meeting
+pub mod Splicing
+pub mod Rebuilding
+pub mod Filling
 pub mod Walking
 pub mod Storing
 pub mod Ranging

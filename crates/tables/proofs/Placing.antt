@@ -33,7 +33,7 @@ module _ (s r : Region) (e : r ≡ s) (a : Address) (x : CheckedAddress) (q : x 
 
 -- ---- a record and the place
 
-further : (k : ℕ) (l : List ℕ) → drop (24 * k) (drop 24 l) ≡ drop (24 * suc k) l
+pub further : (k : ℕ) (l : List ℕ) → drop (24 * k) (drop 24 l) ≡ drop (24 * suc k) l
 further k l =
     let e : 24 + 24 * k ≡ 24 * suc k = omega (arith, mul-suc 24 k) in
     drop-drop (24 * k) 24 l ∙ rw e

@@ -22,7 +22,7 @@ use Rattle.regions.specs.Steps.{stretch}
 use Rattle.regions.proofs.Push.{joins-true}
 use Rattle.regions.proofs.Count.{push-longer}
 use Rattle.regions.proofs.Records.{Fit, put-here, put-before, read-regions-snoc, read-regions-length}
-use Rattle.regions.proofs.RoundTrip.{join-snoc, push-present}
+use Rattle.regions.proofs.RoundTrip.{join-snoc, push-absent, push-present}
 use Rattle.tables.specs.declared.change.Pushed.{Pushed}
 use Rattle.tables.specs.declared.change.Pushed.the-variants.{Count, Full}
 use Rattle.tables.specs.Steps.{fitsIn, HoldsAfter, Holds}
@@ -147,6 +147,18 @@ module _ (l : List ℕ) (n cap c e : ℕ) where
   pub piece-some : (v : State) (t : Tag) (l′ : List ℕ) (a : Pushed) → v ≡ Present t → c ≤ e → (c ≡ e → ⊥) → Holds l′ cap (join (readRegions n l) c (e - c) t) a
       → Holds l′ cap (push (readRegions n l) c (e - c) v) a
   piece-some v t l′ a q h d p = rw (q, push-present (readRegions n l) c (e - c) t (omega arith)) p
+
+-- ---- addresses that no record has: only what the change makes of them inside the range is put behind
+
+module _ (k : State → State) (lo hi from to : ℕ) (v : State) (ev : v ≡ k Absent) where
+  pub gap-kept : v ≡ Absent → (l : List ℕ) (n cap : ℕ) → n ≤ cap → Holds l cap (stretch k lo hi (readRegions n l) from to Absent) (Count n)
+  unfolding stretch
+  gap-kept e l n cap h = rw (← ev, e, push-absent, push-absent, push-absent) (count-holds l cap n (readRegions n l) h refl)
+
+  pub gap-holds : (t : Tag) → v ≡ Present t → (acc : List Region) (x y b p : ℕ) → x ≡ min lo to → b ≡ max from x → y ≡ min hi to → p ≡ max from y
+      → (l : List ℕ) (cap : ℕ) (a : Pushed) → Holds l cap (push acc b (p - b) (Present t)) a → Holds l cap (stretch k lo hi acc from to Absent) a
+  unfolding stretch
+  gap-holds t e acc x y b p ex eb ey ep l cap a h = rw (← ev, e, push-absent, push-absent) (rw (eb, ex, ep, ey) at h)
 
 -- ---- a stretch cut at the ends of the edit's range: three pieces
 

@@ -1,12 +1,14 @@
 -- A range of a table of a good block, changed: the outcomes, and what the steps ask. Assumes nothing.
 use Prim.Native.Nat.{ℕ, _+_, _*_, _-_, _/_, _≤_, _<_}
 use mathlib.Core.Path.{_≡_, refl, sym, ap, _∙_}
-use mathlib.Core.Bool.{Bool, true, false, _||_}
-use mathlib.Core.List.{List, [], _∷_}
+use mathlib.Core.Logic.{_⊎_, inl, inr}
+use mathlib.Core.Bool.{Bool, true, false, cond, _||_}
+use mathlib.Core.List.{List, [], _∷_, _++_}
 use native.Mathlib.Omega.{arith}
 use lib.Dec.{leb, eqb}
-use lib.ListN.{length, take, drop}
-use borrow.Author.Tests.{le-leb, lt-leb, eqb-true}
+use lib.ListN.{length, take, drop, take-append-drop}
+use lib.Seq.{sets}
+use borrow.Author.Tests.{leb-true, eqb-true}
 use Rattle.address.specs.declared.Address.{Address}
 use Rattle.address.specs.declared.Size.{Size}
 use Rattle.address.proofs.Tests.{both}
@@ -14,30 +16,33 @@ use Rattle.regions.specs.declared.Kind.{Kind}
 use Rattle.regions.specs.declared.Kind.the-variants.{Memory, Taken}
 use Rattle.regions.specs.declared.Tag.{Tag}
 use Rattle.regions.specs.declared.Region.{Region}
-use Rattle.regions.specs.declared.State.the-variants.{Absent}
 use Rattle.regions.specs.declared.Change.{Change}
+use Rattle.regions.specs.declared.Change.the-variants.{Fill, Clear, Mark, Unmark}
 use Rattle.regions.specs.Meaning.{at, shortest, top, top-is}
-use Rattle.regions.specs.Lists.{rises, legal, legalTag, goodList}
+use Rattle.regions.specs.Lists.{legal, legalTag, goodList}
 use Rattle.regions.specs.Changes.{change, after, cut, changed}
-use Rattle.regions.specs.Bytes.{readRegions}
+use Rattle.regions.specs.Bytes.{readRegions, tableBytes}
 use Rattle.regions.specs.Steps.{Weighs}
 use Rattle.regions.proofs.Records.{read-regions-length}
 use Rattle.regions.proofs.Rises.{Canonical, Rises-rises}
-use Rattle.regions.proofs.RoundTrip.{canonical-shortest}
 use Rattle.regions.proofs.Good.{good-rises, good-legal}
-use Rattle.regions.proofs.Trim.{round-rises, round-length, trim-rounds}
+use Rattle.regions.proofs.Trim.{round-length, trim-rounds}
 use Rattle.regions.specs.Trim.{roundEach, trimmedList}
 use Rattle.tables.specs.declared.block.Header.{Header}
 use Rattle.tables.specs.declared.block.Tally.{Tally}
-use Rattle.tables.specs.declared.change.Pushed.{Pushed}
-use Rattle.tables.specs.declared.change.Pushed.the-variants.{Count, Full}
-use Rattle.tables.specs.Block.{current, capacity, offset, listOf, withList, blockBytes, readHeader, part, contents, good}
-use Rattle.tables.specs.Checks.{tallyOf}
-use Rattle.tables.specs.Steps.{Holds, AllLight, Table, Editable}
-use Rattle.tables.specs.Commands.{outcome, store, changeRange}
-use Rattle.tables.proofs.Blocks.{room, lists-ok, good-contents}
-use Rattle.tables.proofs.Pushing.{holds-count, holds-list, holds-full}
-use Rattle.tables.proofs.Storing.{span-part, span-room}
+use Rattle.tables.specs.declared.change.Edit.{Edit}
+use Rattle.tables.specs.declared.block.Layout.{Layout}
+use Rattle.tables.specs.declared.inplace.Changed.{Changed}
+use Rattle.tables.specs.declared.inplace.Changed.the-variants.{To, NoRoom}
+use Rattle.regions.proofs.Numbers.{Bytes}
+use Rattle.tables.proofs.Reading.{good-header}
+use Rattle.tables.proofs.Setting.{small-current}
+use Rattle.tables.specs.Block.{current, capacity, offset, listOf, withList, tally, headerBytes, headerOf, blockBytes, readHeader, part, contents, good}
+use Rattle.tables.specs.Checks.{tallyOf, withTally}
+use Rattle.tables.specs.Steps.{AllLight, AllTagged, Uniform, Known, Vacant, Table, Editable, Changeable, Whole, Stored, Trimmed, storedAnswer, storedBytes}
+use Rattle.tables.specs.Commands.{outcome, store, tag, changeRange}
+use Rattle.tables.proofs.Blocks.{room, lists-ok, good-contents, part-zeros}
+use Rattle.tables.proofs.Storing.{capacity-small, span-part, span-room, block-stored}
 
 -- legal tags have few flags
 tag-light : (k : Kind) (t : Tag) → legalTag k t ≡ true → t .flags ≤ 7
@@ -56,10 +61,36 @@ legal-light k (r ∷ rs) e =
     let p = both (legalTag k (r .tag)) (legal k rs) e in
     (tag-light k (r .tag) (p .0), legal-light k rs (p .1))
 
+-- a legal list of the taken table has one tag
+taken-tagged : (xs : List Region) → legal Taken xs ≡ true → AllTagged (tag 0 0) xs
+unfolding legal legalTag
+taken-tagged [] e = tt
+taken-tagged (r ∷ rs) e =
+    let p = both (legalTag Taken (r .tag)) (legal Taken rs) e in
+    let q = both (eqb (r .tag .flags) 0) (eqb (r .tag .node) 0) (p .0) in
+    let f : r .tag .flags ≡ 0 = eqb-true (r .tag .flags) 0 (q .0) in
+    let n : r .tag .node ≡ 0 = eqb-true (r .tag .node) 0 (q .1) in
+    (λ i. record { flags = f i; node = n i }, taken-tagged rs (p .1))
+
+-- what the rules of a table know changes flags by a weight
+known-weighs : (k : Kind) (c : Change) → Known k c → Weighs c
+known-weighs Memory c w = w
+known-weighs Taken (Fill t) w = tt
+known-weighs Taken Clear w = tt
+known-weighs Taken (Mark v) w = absurd w
+known-weighs Taken (Unmark v) w = absurd w
+
+-- in the taken table it makes one state of a range
+known-uniform : (c : Change) (xs : List Region) → Known Taken c → legal Taken xs ≡ true → Uniform c xs
+known-uniform (Fill t) xs w e = rw w (taken-tagged xs e)
+known-uniform Clear xs w e = tt
+known-uniform (Mark v) xs w e = w
+known-uniform (Unmark v) xs w e = w
+
 -- the range of a command: its change, from base to the cut end
-pub editable : (c : Change) (base hi : Address) (size : ℕ) → Weighs c → base .0 < 18446744073709551616 → hi .0 ≡ cut (base .0) size
+pub editable : (k : Kind) (c : Change) (base hi : Address) (size : ℕ) → Known k c → base .0 < 18446744073709551616 → hi .0 ≡ cut (base .0) size
     → Editable (record { change = c; lo = base; hi = hi })
-editable c base hi size w h e = record { weighs = w; low = omega (arith, top-is); high = omega arith }
+editable k c base hi size w h e = record { weighs = known-weighs k c w; low = omega (arith, top-is); high = omega arith }
 
 -- the list that a block says, read from its part
 listed : (b : List ℕ) (k : Kind) → readRegions (tallyOf (readHeader b) k .count) (part current k b) ≡ listOf (contents current b) k
@@ -86,6 +117,40 @@ module _ (b : List ℕ) (g : good current b ≡ true) (k : Kind) (a e : ℕ) (ea
         light = rw list-is (legal-light k (listOf (contents current b) k) (good-legal k (listOf (contents current b) k) isGood));
       }
 
+  -- a table's part of a good block, with its tally
+  pub range-whole : Bytes b → Whole (take (e - a) (drop a b)) t
+  range-whole bs =
+      let n : length (take (e - a) (drop a b)) ≡ 3072 = span-room k a e b g ea ee ∙ rw (capacity-small k) in
+      let q : t ≡ tally (listOf (contents current b) k) = et ∙ ap (λ (x : Header). tallyOf x k) (eh ∙ good-header current small-current b bs g) ∙ of k in
+      record {
+        table = range-table;
+        even = omega arith;
+        small = omega arith;
+        rest = rw (span-part k a e b g ea ee) (part-zeros current b g k (t .count) (sym list-is ∙ ap (readRegions (t .count)) (span-part k a e b g ea ee)));
+        total = ap (λ (x : Tally). x .total .0) q ∙ rw list-is;
+      }
+    where
+      of : (k : Kind) → tallyOf (headerOf (contents current b)) k ≡ tally (listOf (contents current b) k)
+      of Memory = refl
+      of Taken = refl
+
+  -- a change of it finds room in the scratch table: that is as long as the memory table, and in the taken table few records are left
+  pub range-changeable : (d : Edit) → Known k (d .change) → Editable d → Changeable (take (e - a) (drop a b)) t d
+  range-changeable d p w = record { edit = w; scratch = go k refl p }
+    where
+      go : (j : Kind) → j ≡ k → Known j (d .change) → (length (take (e - a) (drop a b)) ≤ 3072) ⊎ Uniform (d .change) (readRegions (t .count) (take (e - a) (drop a b)))
+      go Memory f q =
+          let n : length (take (e - a) (drop a b)) ≡ 24 * capacity current Memory = rw f (span-room k a e b g ea ee) in
+          inl (omega (arith, capacity-small Memory))
+      go Taken f q =
+          let l : legal Taken (listOf (contents current b) k) ≡ true = rw f (good-legal k (listOf (contents current b) k) isGood) in
+          inr (rw list-is (known-uniform (d .change) (listOf (contents current b) k) q l))
+
+  -- a range of which it has no address
+  pub range-vacant : (base hi : Address) (size : ℕ) → hi .0 ≡ cut (base .0) size → base .0 + size ≤ top → Vacant (base .0) (base .0 + size) (listOf (contents current b) k)
+      → Vacant (base .0) (hi .0) (readRegions (t .count) (take (e - a) (drop a b)))
+  range-vacant base hi size eq h v = rw list-is (λ x i j. v x i (omega arith))
+
   module _ (c : Change) (base : Address) (size : ℕ) (hi : Address) (eq : hi .0 ≡ cut (base .0) size) where
     -- the finished list
     finished : shortest (after (change c) (base .0) (hi .0) (at (readRegions (t .count) (take (e - a) (drop a b))))) top
@@ -93,59 +158,75 @@ module _ (b : List ℕ) (g : good current b ≡ true) (k : Kind) (a e : ℕ) (ea
     unfolding changed
     finished = rw (list-is, eq)
 
-    module _ (l : List ℕ) (p : Pushed)
-        (w : Holds l (length (take (e - a) (drop a b)) / 24) (shortest (after (change c) (base .0) (hi .0) (at (readRegions (t .count) (take (e - a) (drop a b))))) top) p) where
-      w′ : Holds l (capacity current k) (changed c (base .0) size (listOf (contents current b) k)) p
-      w′ =
-          let n : length (take (e - a) (drop a b)) / 24 ≡ capacity current k = omega (arith, span-room k a e b g ea ee) in
-          rw (n, finished) at w
+    module _ (x : List ℕ) (p : Changed) (w : Stored (take (e - a) (drop a b)) x (shortest (after (change c) (base .0) (hi .0) (at (readRegions (t .count) (take (e - a) (drop a b))))) top) p) where
+      room-is : length (take (e - a) (drop a b)) / 24 ≡ capacity current k
+      room-is = omega (arith, span-room k a e b g ea ee)
 
-      pub range-full : p ≡ Full → outcome 6 b ≡ changeRange current k c (base .0) size b
-      unfolding store
-      range-full f = rw (lt-leb _ _ (holds-full l (capacity current k) (changed c (base .0) size (listOf (contents current b) k)) p w′ f))
+      answered : p ≡ storedAnswer (capacity current k) (changed c (base .0) size (listOf (contents current b) k))
+      answered = rw (room-is, finished) at (w .answer)
 
-      module _ (n : ℕ) (f : p ≡ Count n) where
-        pub range-room : n ≤ capacity current k
-        range-room = holds-count l (capacity current k) (changed c (base .0) size (listOf (contents current b) k)) p w′ n f .0
+      left : x ≡ storedBytes (capacity current k) (changed c (base .0) size (listOf (contents current b) k)) (take (e - a) (drop a b))
+      left = rw (room-is, finished) at (w .after)
 
-        list : readRegions n l ≡ changed c (base .0) size (listOf (contents current b) k)
-        list = holds-list l (capacity current k) (changed c (base .0) size (listOf (contents current b) k)) p w′ n f
+      no-room : p ≡ NoRoom → leb (length (changed c (base .0) size (listOf (contents current b) k))) (capacity current k) ≡ false
+      unfolding storedAnswer
+      no-room f = go (leb (length (changed c (base .0) size (listOf (contents current b) k))) (capacity current k)) answered
+        where
+          go : (t : Bool) → p ≡ cond t (To (tally (changed c (base .0) size (listOf (contents current b) k)))) NoRoom → t ≡ false
+          go true q = absurd (let z : _≡_ {A = ℕ} 0 1 = cc in omega arith)
+          go false q = refl
 
-        pub range-rises : rises 0 Absent top (readRegions n l) ≡ true
-        unfolding changed
-        range-rises = rw list (Rises-rises (canonical-shortest (after (change c) (base .0) (cut (base .0) size) (at (listOf (contents current b) k))) top))
+      pub range-full : p ≡ NoRoom → outcome 6 (take a b ++ (x ++ drop (e - a) (drop a b))) ≡ changeRange current k c (base .0) size b
+      unfolding store storedBytes
+      range-full f =
+          let n = no-room f in
+          let y : x ≡ take (e - a) (drop a b) = left ∙ rw n in
+          rw (n, y, take-append-drop, take-append-drop)
 
-        pub range-done : (z : List ℕ) → z ≡ blockBytes current (withList (contents current b) k (readRegions n l))
+      module _ (y : Tally) (f : p ≡ To y) where
+        told : (leb (length (changed c (base .0) size (listOf (contents current b) k))) (capacity current k) ≡ true) × (y ≡ tally (changed c (base .0) size (listOf (contents current b) k)))
+        unfolding storedAnswer
+        told = go (leb (length (changed c (base .0) size (listOf (contents current b) k))) (capacity current k)) answered
+          where
+            go : (t : Bool) → p ≡ cond t (To (tally (changed c (base .0) size (listOf (contents current b) k)))) NoRoom
+                → (t ≡ true) × (y ≡ tally (changed c (base .0) size (listOf (contents current b) k)))
+            go true q = (refl, cc)
+            go false q = absurd (let z : _≡_ {A = ℕ} 0 1 = cc in omega arith)
+
+        pub range-done : Bytes b → (l : Layout) → l ≡ current → (o : Header) → o ≡ withTally h k y → (z : List ℕ) → z ≡ sets (take a b ++ (x ++ drop (e - a) (drop a b))) 0 (headerBytes l o)
             → outcome 0 z ≡ changeRange current k c (base .0) size b
-        unfolding store
-        range-done z q =
-            let m : length (changed c (base .0) size (listOf (contents current b) k)) ≤ capacity current k =
-            omega (arith, holds-count l (capacity current k) (changed c (base .0) size (listOf (contents current b) k)) p w′ n f) in
-            rw (le-leb (length (changed c (base .0) size (listOf (contents current b) k))) (capacity current k) m, q, list)
+        unfolding store storedBytes
+        range-done bs l el o eo z ez =
+            let v = told in
+            let m = leb-true (length (changed c (base .0) size (listOf (contents current b) k))) (capacity current k) (v .0) in
+            let u : x ≡ tableBytes (length (take (e - a) (drop a b)) / 24) (changed c (base .0) size (listOf (contents current b) k)) = left ∙ rw (v .0, room-is) in
+            let r = block-stored b bs g k a e ea ee (changed c (base .0) size (listOf (contents current b) k)) x u (y .count) (ap (λ (q : Tally). q .count) (v .1)) (omega (arith, ap (λ (q : Tally). q .count) (v .1))) h eh
+            (y .total) (ap (λ (q : Tally). q .total .0) (v .1)) l el o eo z ez in
+            rw (v .0, r)
 
 -- ---- trim
 
 module _ (b : List ℕ) (g : good current b ≡ true) (a e : ℕ) (ea : a ≡ offset current Memory) (ee : e ≡ offset current Memory + 24 * capacity current Memory) (h : Header)
-    (eh : h ≡ readHeader b) (t : Tally) (et : t ≡ tallyOf h Memory) (k : Size) (pos : 0 < k .0) (n : ℕ) (l : List ℕ)
-    (w : readRegions n l ≡ roundEach (k .0) (readRegions (t .count) (take (e - a) (drop a b)))) where
+    (eh : h ≡ readHeader b) (t : Tally) (et : t ≡ tallyOf h Memory) (k : Size) (pos : 0 < k .0) (x : List ℕ) (y : Tally)
+    (w : Trimmed (take (e - a) (drop a b)) x (roundEach (k .0) (readRegions (t .count) (take (e - a) (drop a b)))) y) where
   rises-memory : Canonical top (contents current b .memory)
   rises-memory = good-rises Memory (contents current b .memory) (lists-ok current (contents current b) (good-contents current b g) Memory)
 
-  list-rounded : readRegions n l ≡ roundEach (k .0) (contents current b .memory)
-  list-rounded = w ∙ ap (roundEach (k .0)) (list-is b g Memory a e ea ee h eh t et)
+  trimmed-is : roundEach (k .0) (readRegions (t .count) (take (e - a) (drop a b))) ≡ trimmedList (k .0) (contents current b .memory)
+  trimmed-is = ap (roundEach (k .0)) (list-is b g Memory a e ea ee h eh t et) ∙ sym (trim-rounds (k .0) (contents current b .memory) pos rises-memory)
 
-  pub trim-room : n ≤ capacity current Memory
-  trim-room =
+  pub trim-done : Bytes b → (l : Layout) → l ≡ current → (o : Header) → o ≡ withTally h Memory y → (z : List ℕ) → z ≡ sets (take a b ++ (x ++ drop (e - a) (drop a b))) 0 (headerBytes l o)
+      → z ≡ blockBytes current (withList (contents current b) Memory (trimmedList (k .0) (contents current b .memory)))
+  trim-done bs l el o eo z ez =
+      let q : y ≡ tally (trimmedList (k .0) (contents current b .memory)) = w .answer ∙ ap tally trimmed-is in
+      let u : x ≡ tableBytes (length (take (e - a) (drop a b)) / 24) (trimmedList (k .0) (contents current b .memory)) =
+      w .after ∙ ap (tableBytes (length (take (e - a) (drop a b)) / 24)) trimmed-is in
+      let c : y .count ≡ length (trimmedList (k .0) (contents current b .memory)) = ap (λ (v : Tally). v .count) q in
+      let r : y .count ≤ capacity current Memory =
       omega (
         arith,
-        sym (read-regions-length n l) ∙ ap (length {A = Region}) list-rounded,
+        ap (length {A = Region}) (trim-rounds (k .0) (contents current b .memory) pos rises-memory),
         round-length (k .0) (contents current b .memory),
         room current (contents current b) (good-contents current b g) Memory,
-      )
-
-  pub trim-rises : rises 0 Absent top (readRegions n l) ≡ true
-  trim-rises = rw list-rounded (Rises-rises (round-rises (k .0) pos rises-memory))
-
-  pub trim-done : (z : List ℕ) → z ≡ blockBytes current (withList (contents current b) Memory (readRegions n l))
-      → z ≡ blockBytes current (withList (contents current b) Memory (trimmedList (k .0) (contents current b .memory)))
-  trim-done z q = rw (trim-rounds (k .0) (contents current b .memory) pos rises-memory, ← list-rounded) q
+      ) in
+      block-stored b bs g Memory a e ea ee (trimmedList (k .0) (contents current b .memory)) x u (y .count) c r h eh (y .total) (ap (λ (v : Tally). v .total .0) q) l el o eo z ez

@@ -5,7 +5,7 @@ use mathlib.Core.Bool.{true}
 use mathlib.Core.List.{List, _∷_, _++_, append-assoc, append-nil}
 use native.Mathlib.Omega.{arith}
 use native.Mathlib.Nat.{sub-zero}
-use lib.ListN.{length, take, drop, replicate, length-append, length-drop, drop-of-length-le}
+use lib.ListN.{length, take, drop, length-append, length-drop, drop-of-length-le}
 use lib.Seq.{sets, take-at, drop-at, drop-drop, length-take-le, take-add}
 use Rattle.address.specs.declared.Address.{Address}
 use Rattle.address.specs.declared.CheckedAddress.{CheckedAddress}
@@ -26,7 +26,7 @@ use Rattle.regions.proofs.Rises.{rises-Rises}
 use Rattle.regions.proofs.Count.{sizes, total-le}
 use Rattle.regions.proofs.Good.{total-is-sizes}
 use Rattle.regions.proofs.Numbers.{Bytes}
-use Rattle.regions.proofs.Records.{regions-bytes-read, read-regions-length, read-regions-rest, read-regions-end}
+use Rattle.regions.proofs.Records.{read-regions-rest, read-regions-end}
 use Rattle.tables.specs.declared.block.Layout.{Layout}
 use Rattle.tables.specs.declared.block.Header.{Header}
 use Rattle.tables.specs.declared.block.Tally.{Tally}
@@ -62,19 +62,6 @@ module _ (h : Header) (k : Kind) (t : Tally) where
 
   pub taken-tally : k ≡ Taken → record { memory = h .memory; taken = t; limit = h .limit; direction = h .direction } ≡ withTally h k t
   taken-tally e = rw e
-
--- ---- a whole table
-
--- records copied, and zeros behind them
-pub table-stored : (t s x y : List ℕ) (n : ℕ) → Bytes s → 24 * n ≤ length t → 24 * n ≤ length s → length t ≡ 24 * (length t / 24)
-    → x ≡ take (24 * n) s ++ drop (24 * n) t → y ≡ take (24 * n) x ++ replicate (length x - 24 * n) 0 → y ≡ tableBytes (length t / 24) (readRegions n s)
-unfolding tableBytes
-table-stored t s x y n bs h k e p q =
-    let m : length (take (24 * n) s) ≡ 24 * n = length-take-le (24 * n) s k in
-    let f : take (24 * n) x ≡ take (24 * n) s = rw p (take-at (take (24 * n) s) (drop (24 * n) t) (24 * n) m) in
-    let l : length x ≡ length t = rw p (simp (length-append, length-drop) (omega arith)) in
-    let z : length x - 24 * n ≡ 24 * (length t / 24 - n) = omega arith in
-    rw (q, f, z, regions-bytes-read n s bs k, read-regions-length)
 
 -- ---- a table's total
 
@@ -150,9 +137,9 @@ module _ (L : Layout) (b : List ℕ) (g : good L b ≡ true) where
 
 module _ (L : Layout) (small : Small L) (b : List ℕ) (bs : Bytes b) (g : good L b ≡ true) where
   -- the header with the new list's tally
-  tallied : (k : Kind) (xs : List Region) → withTally (readHeader b) k (tally xs) ≡ headerOf (withList (contents L b) k xs)
-  tallied Memory xs = ap (λ (h : Header). withTally h Memory (tally xs)) (good-header L small b bs g)
-  tallied Taken xs = ap (λ (h : Header). withTally h Taken (tally xs)) (good-header L small b bs g)
+  storedAnswer : (k : Kind) (xs : List Region) → withTally (readHeader b) k (tally xs) ≡ headerOf (withList (contents L b) k xs)
+  storedAnswer Memory xs = ap (λ (h : Header). withTally h Memory (tally xs)) (good-header L small b bs g)
+  storedAnswer Taken xs = ap (λ (h : Header). withTally h Taken (tally xs)) (good-header L small b bs g)
 
   -- a table stored in its part, and the header written anew
   list-stored : (k : Kind) (xs : List Region) → length xs ≤ capacity L k → (h : Header) → h ≡ readHeader b → (t : Tally) → t ≡ tally xs → (y z : List ℕ)
@@ -161,7 +148,7 @@ module _ (L : Layout) (small : Small L) (b : List ℕ) (bs : Bytes b) (g : good 
   unfolding blockBytes
   list-stored k xs n h e t f y z p q =
       let r : 80 ≤ length y = rw p (stored-room L b g k (tableBytes (capacity L k) xs) (table-length (capacity L k) xs n)) in
-      let w : withTally h k t ≡ headerOf (withList (contents L b) k xs) = rw (e, f) (tallied k xs) in
+      let w : withTally h k t ≡ headerOf (withList (contents L b) k xs) = rw (e, f) (storedAnswer k xs) in
       q ∙ sets-header L (withTally h k t) y r
       ∙ ap₂ (λ (u v : List ℕ). u ++ v) (ap (headerBytes L) w) (ap (drop 80) p ∙ behind L b g k xs)
 

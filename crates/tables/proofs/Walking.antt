@@ -1,12 +1,11 @@
 -- The walk over a table's records that builds the finished list of a changed table. Assumes nothing.
 use Prim.Native.Nat.{ℕ, zero, suc, _+_, _*_, _-_, _≤_, _<_, min, max}
-use mathlib.Core.Path.{_≡_, refl, sym, ap, ap₂, _∙_}
+use mathlib.Core.Path.{_≡_, sym, ap, _∙_}
 use mathlib.Core.Bool.{true}
-use mathlib.Core.List.{List, [], _∷_, _++_}
+use mathlib.Core.List.{List, [], _∷_}
 use native.Mathlib.Omega.{arith}
-use native.Mathlib.Nat.{sub-zero, not-suc-le-zero, le-of-suc-le-suc, mul-suc}
-use lib.ListN.{length, take, drop, take-append-drop}
-use lib.Seq.{drop-drop}
+use native.Mathlib.Nat.{sub-zero}
+use lib.ListN.{length, drop}
 use Rattle.address.specs.declared.Address.{Address}
 use Rattle.address.specs.declared.CheckedAddress.{CheckedAddress}
 use Rattle.address.specs.declared.CheckedAddress.the-variants.{At, Outside}
@@ -20,18 +19,17 @@ use Rattle.regions.specs.Lists.{rises}
 use Rattle.regions.specs.Changes.{after}
 use Rattle.regions.specs.Bytes.{readRegion, readRegions}
 use Rattle.regions.specs.Steps.{stretch}
-use Rattle.regions.proofs.Rises.{Rises, done, next, Canonical, reach, rises-Rises}
+use Rattle.regions.proofs.Rises.{Rises, done, next, Canonical, rises-Rises}
+use Rattle.regions.proofs.Push.{push-none}
 use Rattle.regions.proofs.Count.{push-longer}
-use Rattle.regions.proofs.RoundTrip.{rises-end, push-absent}
-use Rattle.regions.proofs.Twins.{walk}
-use Rattle.regions.proofs.Prefix.{rest-rises}
-use Rattle.regions.proofs.Update.{update-from}
+use Rattle.regions.proofs.RoundTrip.{rises-end}
+use Rattle.regions.proofs.Twins.{walk, update}
+use Rattle.regions.proofs.Update.{update-shortest}
 use Rattle.regions.proofs.Records.{read-regions-rest, read-regions-end}
 use Rattle.tables.specs.declared.change.Pushed.{Pushed}
 use Rattle.tables.specs.declared.change.Pushed.the-variants.{Count, Full}
-use Rattle.tables.specs.Steps.{Holds, AllLight, endingBy}
+use Rattle.tables.specs.Steps.{Holds, AllLight}
 use Rattle.tables.proofs.Pushing.{holds-list, holds-full, full-holds}
-use Rattle.tables.proofs.Placing.{ending-reach, place-le}
 
 module _ (k : State → State) (lo hi : ℕ) where
   -- ---- the list only grows
@@ -53,45 +51,27 @@ module _ (k : State → State) (lo hi : ℕ) where
       let two : List Region = stretch k lo hi one (r .base .0) (end r) (Present (r .tag)) in
       omega (arith, stretch-longer acc c (r .base .0) Absent, stretch-longer one (r .base .0) (end r) (Present (r .tag)), walk-longer two (end r) rs)
 
-  -- ---- one record, with the gap before it
-
-  module _ (acc : List Region) (cap c : ℕ) (r : Region) where
-    gap : List Region
-    gap = stretch k lo hi acc c (r .base .0) Absent
-
-    -- the list with the record and the gap before it
-    abbrev with-record : List Region
-    with-record = stretch k lo hi (stretch k lo hi acc c (r .base .0) Absent) (r .base .0) (end r) (Present (r .tag))
-
-    pub record-gap-full : (l : List ℕ) (a : Pushed) → Holds l cap (stretch k lo hi acc c (r .base .0) Absent) a → a ≡ Full → Holds l cap with-record Full
-    record-gap-full l a h f =
-        full-holds l cap with-record
-        (omega (arith, holds-full l cap (stretch k lo hi acc c (r .base .0) Absent) a h f, stretch-longer (stretch k lo hi acc c (r .base .0) Absent) (r .base .0) (end r) (Present (r .tag))))
-
-    module _ (x : CheckedAddress) (q : x ≡ address (end r)) where
-      pub record-past : end r ≤ top → x ≡ Outside → (l : List ℕ) → Holds l cap with-record Full
-      record-past h o l = absurd (omega (arith, address-outside (end r) x q o, top-is))
-
-      pub record-holds : (l : List ℕ) (a : Pushed) (m : ℕ) → Holds l cap (stretch k lo hi acc c (r .base .0) Absent) a → a ≡ Count m → (o : Address) → x ≡ At o
-          → (l′ : List ℕ) (a′ : Pushed) → Holds l′ cap (stretch k lo hi (readRegions m l) (r .base .0) (o .0) (Present (r .tag))) a′ → Holds l′ cap with-record a′
-      record-holds l a m h f o p l′ a′ h′ =
-          rw (← holds-list l cap (stretch k lo hi acc c (r .base .0) Absent) a h m f, ← address-at (end r) x o q p .0) h′
-
-  -- ---- the walk may start at 0, since nothing before the range is changed
-
-  gap-from : (acc : List Region) (c e : ℕ) → lo ≤ hi → c ≤ lo → c ≤ e → stretch k lo hi acc 0 e Absent ≡ stretch k lo hi acc c e Absent
+  -- a stretch that lies wholly inside the range
+  stretch-inside : (acc : List Region) (c e : ℕ) (v : State) → lo ≤ c → c ≤ e → e ≤ hi → stretch k lo hi acc c e v ≡ push acc c (e - c) (k v)
   unfolding stretch
-  gap-from acc c e w h i =
-      let m : max 0 (min lo e) ≡ max c (min lo e) = omega arith in
-      let p : max 0 (min hi e) ≡ max c (min hi e) = omega arith in
-      rw (m, p, push-absent, push-absent, push-absent, push-absent)
+  stretch-inside acc c e v l h m =
+      let x : max c (min lo e) ≡ c = omega arith in
+      let y : max c (min hi e) ≡ e = omega arith in
+      let z : c - c ≡ 0 = omega arith in
+      let o : e - e ≡ 0 = omega arith in
+      rw (x, y, z, o, push-none, push-none)
 
-  walk-from : (acc : List Region) {c n : ℕ} {v : State} {rs : List Region} → lo ≤ hi → c ≤ lo → Rises c v n rs → walk k lo hi acc 0 rs ≡ walk k lo hi acc c rs
-  unfolding walk
-  walk-from acc {c} w h (done l) =
-      let e : max 0 hi ≡ max c hi = omega arith in
-      rw e (gap-from acc c (max c hi) w h (omega arith))
-  walk-from acc {c} w h (next {r = r} {rs = rs} f q) = rw (gap-from acc c (r .base .0) w h (f .low))
+  -- a record that lies wholly inside the range
+  pub record-inside : (acc : List Region) (cap : ℕ) (r : Region) (o : Address) → o .0 ≡ end r → lo ≤ r .base .0 → o .0 ≤ hi → (b : Address) → b ≡ r .base → (v : State) → v ≡ k (Present (r .tag)) → (l : List ℕ) (a : Pushed)
+      → Holds l cap (push acc (b .0) (o .0 - b .0) v) a → Holds l cap (stretch k lo hi acc (r .base .0) (end r) (Present (r .tag))) a
+  record-inside acc cap r o eo i j b eb v ev l a p =
+      let g : b .0 ≡ r .base .0 = ap (λ (x : Address). x .0) eb in
+      rw (stretch-inside acc (r .base .0) (end r) (Present (r .tag)) i (omega arith) (omega arith)) (rw (g, eo, ev) at p)
+
+  -- any other
+  pub record-across : (acc : List Region) (cap : ℕ) (r : Region) (o : Address) → o .0 ≡ end r → (b : Address) → b ≡ r .base → (l : List ℕ) (a : Pushed)
+      → Holds l cap (stretch k lo hi acc (b .0) (o .0) (Present (r .tag))) a → Holds l cap (stretch k lo hi acc (r .base .0) (end r) (Present (r .tag))) a
+  record-across acc cap r o eo b eb l a p = let g : b .0 ≡ r .base .0 = ap (λ (x : Address). x .0) eb in rw (g, eo) at p
 
 -- ---- what lies ahead of the walk
 
@@ -104,67 +84,23 @@ rises-ahead : {c : ℕ} {v : State} {xs : List Region} → Rises c v top xs → 
 rises-ahead (done l) a = tt
 rises-ahead (next f w) a = (f .low, (rises-end w, (a .0, rises-ahead w (a .1))))
 
-ahead-lower : (c : ℕ) (xs : List Region) → Ahead c xs → Ahead 0 xs
-ahead-lower c [] a = tt
-ahead-lower c (r ∷ rs) a = (omega arith, a .1)
-
-light-drop : (i : ℕ) (xs : List Region) → AllLight xs → AllLight (drop i xs)
+pub light-drop : (i : ℕ) (xs : List Region) → AllLight xs → AllLight (drop i xs)
 light-drop zero xs a = a
 light-drop (suc i) [] a = tt
 light-drop (suc i) (r ∷ rs) a = light-drop i rs (a .1)
 
--- ---- a run of records is the records before and those after
-
-read-regions-drop : (i n : ℕ) (l : List ℕ) → i ≤ n → drop i (readRegions n l) ≡ readRegions (n - i) (drop (24 * i) l)
-unfolding readRegions
-read-regions-drop zero n l h = rw sub-zero
-read-regions-drop (suc i) zero l h = absurd (not-suc-le-zero h)
-read-regions-drop (suc i) (suc n) l h =
-    let e : 24 + 24 * i ≡ 24 * suc i = omega (arith, mul-suc 24 i) in
-    let f : suc n - suc i ≡ n - i = omega arith in
-    read-regions-drop i n (drop 24 l) (le-of-suc-le-suc h) ∙ rw (drop-drop (24 * i) 24 l, e, f)
-
-read-regions-take : (i n : ℕ) (l : List ℕ) → i ≤ n → take i (readRegions n l) ≡ readRegions i l
-unfolding readRegions
-read-regions-take zero n l h = refl
-read-regions-take (suc i) zero l h = absurd (not-suc-le-zero h)
-read-regions-take (suc i) (suc n) l h = ap (λ (x : List Region). readRegion l ∷ x) (read-regions-take i n (drop 24 l) (le-of-suc-le-suc h))
+-- ---- the walk begins with no record
 
 module _ (k : State → State) (lo hi : ℕ) (l : List ℕ) (n : ℕ) (w : lo ≤ hi) (b : hi ≤ top) (rising : rises 0 Absent top (readRegions n l) ≡ true) where
-  -- the finished list
-  abbrev whole : List Region
-  whole = shortest (after k lo hi (at (readRegions n l))) top
+  canonical : Canonical top (readRegions n l)
+  canonical = rises-Rises 0 Absent top (readRegions n l) rising
 
-  module _ (i : ℕ) (e : i ≡ endingBy lo (readRegions n l)) where
-    first-le : i ≤ n
-    first-le = place-le l n lo i e
+  pub walk-start : (o : List ℕ) → shortest (after k lo hi (at (readRegions n l))) top ≡ walk k lo hi (readRegions 0 o) 0 (readRegions (n - 0) (drop (24 * 0) l))
+  unfolding readRegions update
+  walk-start o = rw sub-zero (sym (update-shortest k lo hi top (readRegions n l) w b canonical))
 
-    split : readRegions i l ++ readRegions (n - i) (drop (24 * i) l) ≡ readRegions n l
-    split =
-        ap₂ (λ (x y : List Region). x ++ y) (sym (read-regions-take i n l first-le)) (sym (read-regions-drop i n l first-le)) ∙ take-append-drop i (readRegions n l)
-
-    canonical : Canonical top (readRegions i l ++ readRegions (n - i) (drop (24 * i) l))
-    canonical = rw split (rises-Rises 0 Absent top (readRegions n l) rising)
-
-    before : reach 0 (readRegions i l) ≤ lo
-    before =
-        let h = ending-reach lo 0 (readRegions n l) (omega arith) in
-        rw (← read-regions-take i n l first-le, e) h
-
-    -- the walk begins there, behind the records before it
-    pub walk-start : (o : List ℕ) → readRegions i o ≡ readRegions i l → whole ≡ walk k lo hi (readRegions i o) 0 (readRegions (n - i) (drop (24 * i) l))
-    walk-start o q =
-        let ys : List Region = readRegions i l in
-        let zs : List Region = readRegions (n - i) (drop (24 * i) l) in
-        sym (ap (λ (x : List Region). walk k lo hi x 0 zs) q ∙ walk-from k lo hi ys w before (rest-rises ys zs canonical)
-        ∙ update-from k lo hi top ys zs w b canonical before ∙ ap (λ (x : List Region). shortest (after k lo hi (at x)) top) split)
-
-    pub ahead-start : AllLight (readRegions n l) → Ahead 0 (readRegions (n - i) (drop (24 * i) l))
-    ahead-start a =
-        let ys : List Region = readRegions i l in
-        let zs : List Region = readRegions (n - i) (drop (24 * i) l) in
-        let light : AllLight zs = rw (read-regions-drop i n l first-le) at (light-drop i (readRegions n l) a) in
-        ahead-lower (reach 0 ys) zs (rises-ahead (rest-rises ys zs canonical) light)
+  pub ahead-start : AllLight (readRegions n l) → Ahead 0 (readRegions (n - 0) (drop (24 * 0) l))
+  ahead-start a = rw sub-zero (rises-ahead canonical a)
 
 -- ---- the walk over a table's bytes, at record i of n
 
@@ -191,32 +127,45 @@ module _ (k : State → State) (lo hi : ℕ) (whole : List Region) (l : List ℕ
     pub walk-low : c .0 ≤ r .base .0
     walk-low = next-ahead .0
 
-    pub walk-high : end r ≤ top
+    walk-high : end r ≤ top
     walk-high = next-ahead .1 .0
 
     pub walk-light : r .tag .flags ≤ 7
     walk-light = next-ahead .1 .1 .0
 
-    module _ (cap : ℕ) (o′ : List ℕ) (a : Pushed)
-        (p : Holds o′ cap (stretch k lo hi (stretch k lo hi (readRegions m o) (c .0) (r .base .0) Absent) (r .base .0) (end r) (Present (r .tag))) a) where
-      list : List Region
-      list = stretch k lo hi (stretch k lo hi (readRegions m o) (c .0) (r .base .0) Absent) (r .base .0) (end r) (Present (r .tag))
+    -- the gap before the record
+    gap : List Region
+    gap = stretch k lo hi (readRegions m o) (c .0) (r .base .0) Absent
 
-      pub walk-full : a ≡ Full → Holds o′ cap whole Full
-      unfolding list
-      walk-full f =
-          let z : cap < length whole =
-          rw step (omega (arith, holds-full o′ cap list a p f, walk-longer k lo hi list (end r) (readRegions (n - (i + 1)) (drop (24 * (i + 1)) l)))) in
-          full-holds o′ cap whole z
+    -- and the record
+    both : List Region
+    both = stretch k lo hi gap (r .base .0) (end r) (Present (r .tag))
 
-      module _ (x : CheckedAddress) (q : x ≡ address (end r)) where
-        pub walk-past : x ≡ Outside → Holds o′ cap whole Full
-        walk-past f = absurd (omega (arith, address-outside (end r) x q f, walk-high, top-is))
+    whole-longer : length both ≤ length whole
+    unfolding gap both
+    whole-longer = rw step (walk-longer k lo hi both (end r) (readRegions (n - (i + 1)) (drop (24 * (i + 1)) l)))
 
-        module _ (m′ : ℕ) (f : a ≡ Count m′) (y : Address) (g : x ≡ At y) where
-          pub walk-next : whole ≡ walk k lo hi (readRegions m′ o′) (y .0) (readRegions (n - (i + 1)) (drop (24 * (i + 1)) l))
-          unfolding list
-          walk-next = rw (holds-list o′ cap list a p m′ f, address-at (end r) x y q g .0) step
+    module _ (x : CheckedAddress) (q : x ≡ address (end r)) where
+      pub walk-past : x ≡ Outside → (cap : ℕ) → Holds o cap whole Full
+      walk-past f cap = absurd (omega (arith, address-outside (end r) x q f, walk-high, top-is))
+
+    module _ (cap : ℕ) (o′ : List ℕ) (a : Pushed) (p : Holds o′ cap (stretch k lo hi (readRegions m o) (c .0) (r .base .0) Absent) a) where
+      pub walk-gap-full : a ≡ Full → Holds o′ cap whole Full
+      unfolding gap both
+      walk-gap-full f = full-holds o′ cap whole (omega (arith, holds-full o′ cap gap a p f, stretch-longer k lo hi gap (r .base .0) (end r) (Present (r .tag)), whole-longer))
+
+      module _ (m′ : ℕ) (f : a ≡ Count m′) (o″ : List ℕ) (a′ : Pushed) (p′ : Holds o″ cap (stretch k lo hi (readRegions m′ o′) (r .base .0) (end r) (Present (r .tag))) a′) where
+        holds-both : Holds o″ cap both a′
+        unfolding gap both
+        holds-both = rw (holds-list o′ cap gap a p m′ f) at p′
+
+        pub walk-full : a′ ≡ Full → Holds o″ cap whole Full
+        walk-full g = full-holds o″ cap whole (omega (arith, holds-full o″ cap both a′ holds-both g, whole-longer))
+
+        module _ (m″ : ℕ) (g : a′ ≡ Count m″) (x : CheckedAddress) (q : x ≡ address (end r)) (y : Address) (s : x ≡ At y) where
+          pub walk-next : whole ≡ walk k lo hi (readRegions m″ o″) (y .0) (readRegions (n - (i + 1)) (drop (24 * (i + 1)) l))
+          unfolding gap both
+          walk-next = rw (holds-list o″ cap both a′ holds-both m″ g, address-at (end r) x y q s .0) step
 
           pub walk-ahead : Ahead (y .0) (readRegions (n - (i + 1)) (drop (24 * (i + 1)) l))
-          walk-ahead = rw (address-at (end r) x y q g .0) (next-ahead .1 .1 .1)
+          walk-ahead = rw (address-at (end r) x y q s .0) (next-ahead .1 .1 .1)

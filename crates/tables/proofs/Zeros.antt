@@ -8,7 +8,8 @@ use native.Mathlib.Nat.{le-of-suc-le-suc, not-suc-le-zero}
 use native.Mathlib.Numerals.{add-one}
 use lib.Dec.{eqb}
 use lib.ListN.{length, take, drop, getD, set, replicate, length-append, length-drop, length-replicate, replicate-append-replicate, take-append-drop, drop-of-length-le}
-use lib.Seq.{drop-cons, drop-drop, length-take-le, set-at}
+use lib.Seq.{drop-cons, drop-drop, take-add, take-all, length-take-le, set-at}
+use lib.Bits.{bitOr, or-add-and, and-le-l, and-le-r}
 use borrow.Author.Tests.{eq-eqb, ne-eqb, eqb-true, eqb-false}
 use Rattle.address.proofs.Tests.{both}
 use Rattle.regions.specs.Bytes.{number}
@@ -65,6 +66,103 @@ module _ (l : List ℕ) (at i : ℕ) (inv : zeros (drop at l) ≡ zeros (drop i 
 
   pub zeros-rest : (b : Bool) → b ≡ zeros (drop i l) → b ≡ zeros (drop at l)
   zeros-rest b e = e ∙ sym inv
+
+-- ---- words joined
+
+-- joined words are 0 where both are
+or-none : (a b : ℕ) → eqb (bitOr a b) 0 ≡ (eqb a 0 && eqb b 0)
+or-none a b = go (eqb a 0) refl
+  where
+    go : (t : Bool) → eqb a 0 ≡ t → eqb (bitOr a b) 0 ≡ (t && eqb b 0)
+    go true e = rest (eqb b 0) refl
+      where
+        rest : (u : Bool) → eqb b 0 ≡ u → eqb (bitOr a b) 0 ≡ u
+        rest true f = eq-eqb (bitOr a b) 0 (omega (arith, eqb-true a 0 e, eqb-true b 0 f, or-add-and a b))
+        rest false f = ne-eqb (bitOr a b) 0 (λ z. eqb-false b 0 f (omega (arith, or-add-and a b, and-le-l a b)))
+    go false e = ne-eqb (bitOr a b) 0 (λ z. eqb-false a 0 e (omega (arith, or-add-and a b, and-le-r a b)))
+
+zeros-append : (x y : List ℕ) → zeros (x ++ y) ≡ (zeros x && zeros y)
+unfolding zeros
+zeros-append [] y = refl
+zeros-append (b ∷ x) y = rw (zeros-append x y) (go (eqb b 0))
+  where
+    go : (t : Bool) → t && (zeros x && zeros y) ≡ (t && zeros x) && zeros y
+    go true = refl
+    go false = refl
+
+-- a number is 0 where its bytes are
+number-zeros : (k : ℕ) (l : List ℕ) → eqb (number k l) 0 ≡ zeros (take k l)
+unfolding zeros number
+number-zeros zero l = refl
+number-zeros (suc k) [] = refl
+number-zeros (suc k) (b ∷ l) = sum-zero b (number k l) ∙ rw (number-zeros k l)
+
+module _ (l : List ℕ) where
+  -- v is 0 exactly when the m bytes from i on are
+  abbrev Spells : ℕ → ℕ → ℕ → Type 0
+  Spells m i v = eqb v 0 ≡ zeros (take m (drop i l))
+
+  word : (i v : ℕ) → v ≡ number 8 (drop i l) → Spells 8 i v
+  word i v e = rw e (number-zeros 8 (drop i l))
+
+  joined : (m k i j n a b : ℕ) → i + m ≡ j → m + k ≡ n → Spells m i a → Spells k j b → Spells n i (bitOr a b)
+  joined m k i j n a b e f p q =
+      let c : drop m (drop i l) ≡ drop j l = drop-drop m i l ∙ rw e in
+      rw (← f, take-add m k (drop i l), c, zeros-append, ← p, ← q) (or-none a b)
+
+  -- four of one length, one after the other
+  four : (m i j k n a b c d : ℕ) → i + 2 * m ≡ j → i + 3 * m ≡ k → 4 * m ≡ n → Spells m i a → Spells m (i + m) b → Spells m j c → Spells m k d
+      → Spells n i (bitOr (bitOr (bitOr a b) c) d)
+  four m i j k n a b c d ej ek en p q r s =
+      joined (3 * m) m i k n (bitOr (bitOr a b) c) d ek (omega arith)
+      (joined (2 * m) m i j (3 * m) (bitOr a b) c ej (omega arith) (joined m m i (i + m) (2 * m) a b refl (omega arith) p q) r)
+      s
+
+  pub four-words : (i a b c d : ℕ) → a ≡ number 8 (drop i l) → b ≡ number 8 (drop (i + 8) l) → c ≡ number 8 (drop (i + 16) l) → d ≡ number 8 (drop (i + 24) l)
+      → eqb (bitOr (bitOr (bitOr a b) c) d) 0 ≡ zeros (take 32 (drop i l))
+  four-words i a b c d p q r s = four 8 i (i + 16) (i + 24) 32 a b c d refl refl refl (word i a p) (word (i + 8) b q) (word (i + 16) c r) (word (i + 24) d s)
+
+  pub four-32 : (i a b c d : ℕ) → eqb a 0 ≡ zeros (take 32 (drop i l)) → eqb b 0 ≡ zeros (take 32 (drop (i + 32) l)) → eqb c 0 ≡ zeros (take 32 (drop (i + 64) l))
+      → eqb d 0 ≡ zeros (take 32 (drop (i + 96) l)) → eqb (bitOr (bitOr (bitOr a b) c) d) 0 ≡ zeros (take 128 (drop i l))
+  four-32 i a b c d p q r s = four 32 i (i + 64) (i + 96) 128 a b c d refl refl refl p q r s
+
+  -- from `at` up to i all is 0
+  cut : (at i : ℕ) → at ≤ i → zeros (drop at l) ≡ (zeros (take (i - at) (drop at l)) && zeros (drop i l))
+  cut at i h =
+      let e : at + (i - at) ≡ i = omega arith in
+      let d : drop (i - at) (drop at l) ≡ drop i l = drop-drop (i - at) at l ∙ rw e in
+      let f : take (i - at) (drop at l) ++ drop i l ≡ drop at l = rw (← d) (take-append-drop (i - at) (drop at l)) in
+      rw (← zeros-append, f)
+
+  pub none-yet : (at : ℕ) → zeros (take (at - at) (drop at l)) ≡ true
+  unfolding zeros
+  none-yet at = let e : at - at ≡ 0 = omega arith in rw e
+
+  -- m bytes a turn
+  module _ (m at i : ℕ) (low : at ≤ i) (inv : zeros (take (i - at) (drop at l)) ≡ true) where
+    pub zero-turn : (v : ℕ) → eqb v 0 ≡ zeros (take m (drop i l)) → v ≡ 0 → zeros (take (i + m - at) (drop at l)) ≡ true
+    zero-turn v e z =
+        let f : i + m - at ≡ i - at + m = omega arith in
+        let g : at + (i - at) ≡ i = omega arith in
+        let d : drop (i - at) (drop at l) ≡ drop i l = drop-drop (i - at) at l ∙ rw g in
+        rw (f, take-add (i - at) m (drop at l), d, zeros-append, inv, ← e, eq-eqb v 0 z)
+
+    pub turn-hit : (v : ℕ) → eqb v 0 ≡ zeros (take m (drop i l)) → (v ≡ 0 → ⊥) → false ≡ zeros (drop at l)
+    turn-hit v e z =
+        let d : zeros (drop i l) ≡ false = cut-here ∙ rw (← e, ne-eqb v 0 z) in
+        sym (cut at i low ∙ rw (inv, d))
+      where
+        cut-here : zeros (drop i l) ≡ (zeros (take m (drop i l)) && zeros (drop m (drop i l)))
+        cut-here = rw (← zeros-append, take-append-drop)
+
+    -- fewer than m are left: they are among the last m
+    pub zero-last : (n v : ℕ) → n ≡ length l → eqb v 0 ≡ zeros (take m (drop (n - m) l)) → m ≤ n - at → n - i < m → eqb v 0 ≡ zeros (drop at l)
+    zero-last n v len e h k =
+        let j : ℕ = n - m in
+        let r : length (drop j l) ≤ m = simp length-drop (omega arith) in
+        let f : i - at ≡ j - at + (i - j) = omega arith in
+        let p : zeros (take (j - at) (drop at l)) && zeros (take (i - j) (drop (j - at) (drop at l))) ≡ true = rw (f, take-add (j - at) (i - j) (drop at l), zeros-append) at inv in
+        e ∙ sym (cut at j (omega arith) ∙ rw (both (zeros (take (j - at) (drop at l))) (zeros (take (i - j) (drop (j - at) (drop at l)))) p .0, take-all m (drop j l) r))
 
 -- zeros are zeros
 pub zeros-replicate : (l : List ℕ) → zeros l ≡ true → l ≡ replicate (length l) 0

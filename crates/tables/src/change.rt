@@ -1,6 +1,4 @@
 // A change over a range of a table: the finished shortest list is built in a scratch table.
-use crate::table::copy_front;
-use crate::table::place;
 use address::Address;
 use address::CheckedAddress;
 use address::CheckedSize;
@@ -16,9 +14,9 @@ ghost use mathlib.Core.List.{[], _∷_, _++_};
 ghost use Prim.Native.Nat.{_+_, _*_, _-_, _/_, _^_, _<_, _≤_};
 ghost use lib.ListN.{length};
 ghost use Rattle.regions.specs.Bytes.{readRegions};
-ghost use Rattle.regions.specs.Meaning.{region, end as endOf, at, joins, join, push, shortest, top};
-ghost use Rattle.tables.specs.Steps.{Holds, Table, Editable};
-ghost use Rattle.regions.specs.Changes.{change, after};
+ghost use Rattle.regions.specs.Meaning.{region, end as endOf, joins, join, push};
+ghost use Rattle.tables.specs.Steps.{Holds, Table, Editable, finished};
+ghost use Rattle.regions.specs.Changes.{change};
 ghost use Rattle.regions.specs.declared.State.the-variants.{Absent, Present};
 ghost use Rattle.regions.specs.Steps.{Light, stretch};
 
@@ -127,46 +125,63 @@ fn push_stretch(
     push_piece(out, k, cap, above, to, v)
 }
 
-// Puts a record behind, with the gap before it, where all up to `from` is done.
-fn push_record(out: &mut [u8], n: usize, cap: usize, edit: Edit, from: Address, r: Region) -> Pushed
-    requires { ⌜ (n ≤ cap) × ((24 * cap ≤ length (now out)) × ((from .0 ≤ r .base .0) × ((endOf r ≤ top) × ((r .tag .flags ≤ 7) × Editable edit)))) ⌝ }
-    ensures { λ a. ⌜ Holds (now (out .exit)) cap (stretch (change (edit .change)) (edit .lo .0) (edit .hi .0) (stretch (change (edit .change)) (edit .lo .0) (edit .hi .0) (readRegions n (now (out .entry))) (from .0) (r .base .0) Absent) (r .base .0) (endOf r) (Present (r .tag))) a ⌝ }
+// Puts the addresses from `from` up to, not including, `to`, of which the table has none, behind the records: filled where the edit fills them.
+fn push_gap(out: &mut [u8], n: usize, cap: usize, edit: Edit, from: Address, to: Address) -> Pushed
+    requires { ⌜ (n ≤ cap) × ((24 * cap ≤ length (now out)) × ((from .0 ≤ to .0) × Editable edit)) ⌝ }
+    ensures { λ a. ⌜ Holds (now (out .exit)) cap (stretch (change (edit .change)) (edit .lo .0) (edit .hi .0) (readRegions n (now (out .entry))) (from .0) (to .0) Absent) a ⌝ }
+{
+    let change = edit.change;
+    let lo = edit.lo;
+    let hi = edit.hi;
+    let State::Present(tag) = change.apply(State::Absent) else {
+        return Pushed::Count(n);
+    };
+    let below = from.max(lo.min(to));
+    let above = from.max(hi.min(to));
+    push_piece(out, n, cap, below, above, State::Present(tag))
+}
+
+// Puts a record behind, changed inside the edit's range.
+fn push_record(out: &mut [u8], n: usize, cap: usize, edit: Edit, r: Region, end: Address) -> Pushed
+    requires { ⌜ (n ≤ cap) × ((24 * cap ≤ length (now out)) × ((end .0 ≡ endOf r) × ((r .tag .flags ≤ 7) × Editable edit))) ⌝ }
+    ensures { λ a. ⌜ Holds (now (out .exit)) cap (stretch (change (edit .change)) (edit .lo .0) (edit .hi .0) (readRegions n (now (out .entry))) (r .base .0) (endOf r) (Present (r .tag))) a ⌝ }
 {
     let base = r.base;
     let tag = r.tag;
-    let Pushed::Count(m) = push_stretch(out, n, cap, edit, from, base, State::Absent) else {
-        return Pushed::Full;
-    };
-    let CheckedAddress::At(end) = r.end() else {
-        return Pushed::Full;
-    };
-    push_stretch(out, m, cap, edit, base, end, State::Present(tag))
+    if edit.lo.0 <= base.0 {
+        if end.0 <= edit.hi.0 {
+            let change = edit.change;
+            return push_piece(out, n, cap, base, end, change.apply(State::Present(tag)));
+        }
+    }
+    push_stretch(out, n, cap, edit, base, end, State::Present(tag))
 }
 
-// Builds the finished shortest list of a changed table in `out`, if it has room there for as many records as the table.
+// Builds the finished shortest list of changed records in `out`, if it has room there.
 pub fn change_list(t: &[u8], count: usize, out: &mut [u8], edit: Edit) -> Pushed
-    requires { ⌜ Table (now t) count × ((length (now t) ≤ length (now out)) × Editable edit) ⌝ }
-    ensures { λ a. ⌜ Holds (now (out .exit)) (length (now (t .entry)) / 24) (shortest (after (change (edit .change)) (edit .lo .0) (edit .hi .0) (at (readRegions count (now (t .entry))))) top) a ⌝ }
+    requires { ⌜ Table (now t) count × Editable edit ⌝ }
+    ensures { λ a. ⌜ Holds (now (out .exit)) (length (now (out .entry)) / 24) (finished edit (readRegions count (now (t .entry)))) a ⌝ }
 {
-    let cap = t.len() / 24;
-    let lo = edit.lo;
+    let cap = out.len() / 24;
     let hi = edit.hi;
-    let first = place(t, count, lo);
-    copy_front(out, t, 24 * first);
-    let mut n = first;
+    let mut n = 0;
     let mut from = Address(0);
-    let mut i = first;
+    let mut i = 0;
     while i < count {
         let r = get_region(t, 24 * i);
-        let Pushed::Count(m) = push_record(out, n, cap, edit, from, r) else {
-            return Pushed::Full;
-        };
         let CheckedAddress::At(end) = r.end() else {
             return Pushed::Full;
         };
-        n = m;
+        let base = r.base;
+        let Pushed::Count(m) = push_gap(out, n, cap, edit, from, base) else {
+            return Pushed::Full;
+        };
+        let Pushed::Count(k) = push_record(out, m, cap, edit, r, end) else {
+            return Pushed::Full;
+        };
+        n = k;
         from = end;
         i += 1;
     }
-    push_stretch(out, n, cap, edit, from, from.max(hi), State::Absent)
+    push_gap(out, n, cap, edit, from, from.max(hi))
 }

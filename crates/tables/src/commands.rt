@@ -14,11 +14,14 @@ use regions::Change;
 use regions::Kind;
 use regions::Tag;
 ghost use mathlib.Core.Path.{_≡_};
-ghost use Prim.Native.Nat.{_≤_};
+ghost use mathlib.Core.Bool.{true};
 ghost use lib.ListN.{length};
+ghost use Rattle.address.specs.Numbers.{powerOfTwo};
+ghost use Rattle.regions.specs.declared.Kind.the-variants.{Memory};
+ghost use Rattle.regions.specs.Lists.{legalTag};
 ghost use Rattle.tables.specs.Block.{current, good};
 ghost use Rattle.tables.specs.Commands.{outcome, unless, changeRange, fresh as freshOutcome, set as setOutcome, add as addOutcome, remove as removeOutcome, mark as markOutcome, unmark as unmarkOutcome, reserve as reserveOutcome, free as freeOutcome, trim as trimOutcome};
-ghost use Rattle.regions.specs.Steps.{Weighs};
+ghost use Rattle.tables.specs.Steps.{Known};
 
 // Writes a fresh block over any bytes of the right length.
 pub fn fresh(block: &mut [u8]) -> u32
@@ -69,13 +72,21 @@ pub fn set(block: &mut [u8], limit: Address, direction: u32) -> u32
 
 // A change over a range of a table, on any block.
 fn on_range(block: &mut [u8], kind: Kind, change: Change, base: Address, size: Size) -> u32
-    requires { ⌜ Weighs change ⌝ }
+    requires { ⌜ Known kind change ⌝ }
     ensures { λ r. ⌜ outcome r (now (block .exit)) ≡ unless (good current (now (block .entry))) 1 (now (block .entry)) (changeRange current kind change (base .0) (size .0) (now (block .entry))) ⌝ }
 {
     if !block_good(block, current_layout()) {
         return 1;
     }
     change_range(block, kind, change, base, size)
+}
+
+// What add answers on a good block, with a legal tag: nothing is checked again.
+pub fn add_on_good(block: &mut [u8], base: Address, size: Size, tag: Tag) -> u32
+    requires { ⌜ (good current (now block) ≡ true) × (legalTag Memory tag ≡ true) ⌝ }
+    ensures { λ r. ⌜ outcome r (now (block .exit)) ≡ addOutcome current (base .0) (size .0) (tag .flags) (tag .node) (now (block .entry)) ⌝ }
+{
+    change_range(block, Kind::Memory, Change::Fill(tag), base, size)
 }
 
 // Gives the tag to each address of the range not yet in memory.
@@ -88,7 +99,7 @@ pub fn add(block: &mut [u8], base: Address, size: Size, tag: Tag) -> u32
     if !tag.legal(Kind::Memory) {
         return 2;
     }
-    change_range(block, Kind::Memory, Change::Fill(tag), base, size)
+    add_on_good(block, base, size, tag)
 }
 
 // Takes addresses out of memory.
@@ -127,6 +138,14 @@ pub fn free(block: &mut [u8], base: Address, size: Size) -> u32
     on_range(block, Kind::Taken, Change::Clear, base, size)
 }
 
+// What trim does to a good block, by a power of two.
+pub fn trim_on_good(block: &mut [u8], align: Size)
+    requires { ⌜ (good current (now block) ≡ true) × (powerOfTwo (align .0) ≡ true) ⌝ }
+    ensures { λ _. ⌜ outcome 0 (now (block .exit)) ≡ trimOutcome current (align .0) (now (block .entry)) ⌝ }
+{
+    trim_memory(block, align)
+}
+
 // Rounds each memory record's base up and its end down; one of which nothing is left goes.
 pub fn trim(block: &mut [u8], align: Size) -> u32
     ensures { λ r. ⌜ outcome r (now (block .exit)) ≡ trimOutcome current (align .0) (now (block .entry)) ⌝ }
@@ -137,6 +156,6 @@ pub fn trim(block: &mut [u8], align: Size) -> u32
     if !align.power_of_two() {
         return 3;
     }
-    trim_memory(block, align);
+    trim_on_good(block, align);
     0
 }

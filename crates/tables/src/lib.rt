@@ -2,6 +2,9 @@
 pub mod block;
 pub mod change;
 pub mod commands;
+pub mod gap;
+pub mod inplace;
+pub mod moves;
 pub mod range;
 pub mod table;
 pub mod trim;

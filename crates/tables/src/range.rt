@@ -1,32 +1,28 @@
 // One way to change a range of a table of a good block, over the change and the table.
-use crate::block::Tally;
 use crate::block::current_layout;
 use crate::block::get_header;
 use crate::block::put_header;
 use crate::change::Edit;
-use crate::change::Pushed;
-use crate::change::change_list;
-use crate::table::store_table;
-use crate::table::total_of;
-use crate::trim::round_records;
+use crate::gap::change_table;
+use crate::gap::fill_table;
+use crate::inplace::Changed;
+use crate::trim::trim_table;
 use address::Address;
 use address::CheckedAddress;
 use address::Size;
 use regions::Change;
 use regions::Kind;
+use regions::Tag;
 ghost use mathlib.Core.Path.{_≡_};
 ghost use mathlib.Core.Bool.{true};
 ghost use Prim.Native.Nat.{_+_, _*_, _<_, _≤_};
-ghost use lib.ListN.{length};
-ghost use Rattle.regions.specs.declared.State.the-variants.{Absent};
 ghost use Rattle.regions.specs.declared.Kind.the-variants.{Memory};
+ghost use Rattle.regions.specs.declared.Change.the-variants.{Fill};
 ghost use Rattle.regions.specs.Meaning.{top};
 ghost use Rattle.regions.specs.Trim.{trimmedList};
-ghost use Rattle.regions.specs.Lists.{rises};
 ghost use Rattle.regions.specs.Changes.{cut};
-ghost use Rattle.regions.specs.Bytes.{readRegions};
-ghost use Rattle.regions.specs.Steps.{Weighs};
-ghost use Rattle.tables.specs.Block.{current, offset, capacity, withList, blockBytes, contents, good};
+ghost use Rattle.tables.specs.Steps.{Known, Vacant};
+ghost use Rattle.tables.specs.Block.{current, offset, capacity, listOf, withList, blockBytes, contents, good};
 ghost use Rattle.tables.specs.Commands.{outcome, changeRange};
 
 // Where the records of a table stand in a block.
@@ -56,43 +52,43 @@ pub fn cut_end(base: Address, size: Size) -> Address
     end
 }
 
-// Puts the first `n` records of `src` in the place of a table of a good block, with their count and total.
-pub fn store_list(block: &mut [u8], kind: Kind, src: &[u8], n: usize)
-    requires { ⌜ (good current (now block) ≡ true) × ((n ≤ capacity current kind) × ((24 * n ≤ length (now src)) × (rises 0 Absent top (readRegions n (now src)) ≡ true))) ⌝ }
-    ensures { λ _. ⌜ now (block .exit) ≡ blockBytes current (withList (contents current (now (block .entry))) kind (readRegions n (now (src .entry)))) ⌝ }
-{
-    let span = table_span(kind);
-    let start = span.start;
-    let end = span.end;
-    let own = get_header(block);
-    let tally = Tally {
-        count: n as u32,
-        total: total_of(src, n),
-    };
-    store_table(&mut block[start..end], src, n);
-    put_header(block, current_layout(), own.with_tally(kind, tally));
-}
-
 // Changes a range of a table, or answers 6.
 pub fn change_range(block: &mut [u8], kind: Kind, change: Change, base: Address, size: Size) -> u32
-    requires { ⌜ (good current (now block) ≡ true) × Weighs change ⌝ }
+    requires { ⌜ (good current (now block) ≡ true) × Known kind change ⌝ }
     ensures { λ r. ⌜ outcome r (now (block .exit)) ≡ changeRange current kind change (base .0) (size .0) (now (block .entry)) ⌝ }
 {
     let span = table_span(kind);
     let start = span.start;
     let end = span.end;
-    let tally = get_header(block).tally(kind);
+    let own = get_header(block);
+    let tally = own.tally(kind);
     let edit = Edit {
         change,
         lo: base,
         hi: cut_end(base, size),
     };
-    let mut scratch = [0u8; 3072];
-    let Pushed::Count(n) = change_list(&block[start..end], tally.count as usize, &mut scratch, edit)
-    else {
+    let Changed::To(new) = change_table(&mut block[start..end], tally, edit) else {
         return 6;
     };
-    store_list(block, kind, &scratch, n);
+    put_header(block, current_layout(), own.with_tally(kind, new));
+    0
+}
+
+// Puts a range of which a table has no address into it, with a tag, or answers 6.
+pub fn fill_range(block: &mut [u8], kind: Kind, tag: Tag, base: Address, size: Size) -> u32
+    requires { ⌜ (good current (now block) ≡ true) × ((0 < size .0) × ((base .0 + size .0 ≤ top) × Vacant (base .0) (base .0 + size .0) (listOf (contents current (now block)) kind))) ⌝ }
+    ensures { λ r. ⌜ outcome r (now (block .exit)) ≡ changeRange current kind (Fill tag) (base .0) (size .0) (now (block .entry)) ⌝ }
+{
+    let span = table_span(kind);
+    let start = span.start;
+    let end = span.end;
+    let own = get_header(block);
+    let tally = own.tally(kind);
+    let hi = cut_end(base, size);
+    let Changed::To(new) = fill_table(&mut block[start..end], tally, base, hi, tag) else {
+        return 6;
+    };
+    put_header(block, current_layout(), own.with_tally(kind, new));
     0
 }
 
@@ -104,13 +100,8 @@ pub fn trim_memory(block: &mut [u8], align: Size)
     let span = table_span(Kind::Memory);
     let start = span.start;
     let end = span.end;
-    let tally = get_header(block).tally(Kind::Memory);
-    let mut scratch = [0u8; 3072];
-    let n = round_records(
-        &block[start..end],
-        tally.count as usize,
-        &mut scratch,
-        align,
-    );
-    store_list(block, Kind::Memory, &scratch, n);
+    let own = get_header(block);
+    let tally = own.tally(Kind::Memory);
+    let new = trim_table(&mut block[start..end], tally, align);
+    put_header(block, current_layout(), own.with_tally(Kind::Memory, new));
 }

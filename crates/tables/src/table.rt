@@ -10,9 +10,9 @@ use regions::bytes::get_u64;
 ghost use mathlib.Core.Path.{_≡_};
 ghost use mathlib.Core.List.{_++_};
 ghost use Prim.Native.Nat.{_+_, _*_, _-_, _/_, _≤_};
-ghost use lib.Dec.{leb};
+ghost use lib.Dec.{leb, eqb};
 ghost use lib.ListN.{length, take, drop, replicate};
-ghost use Rattle.regions.specs.Bytes.{readRegion, readRegions, tableBytes};
+ghost use Rattle.regions.specs.Bytes.{readRegion, readRegions};
 ghost use mathlib.Core.Bool.{true};
 ghost use Rattle.regions.specs.declared.State.the-variants.{Absent};
 ghost use Rattle.regions.specs.Meaning.{end as endOf, at, total, top};
@@ -31,32 +31,36 @@ pub fn check_records(t: &[u8], count: usize, kind: Kind) -> Checked
     requires { ⌜ 24 * count ≤ length (now t) ⌝ }
     ensures { λ r. ⌜ r ≡ checkedList kind (readRegions count (now (t .entry))) ⌝ }
 {
-    let mut total = Size(0);
-    let mut low = Address(0);
+    let mut total = 0;
+    let mut low = 0;
     let mut below = State::Absent;
     let mut i = 0;
     while i < count {
         let r = get_region(t, 24 * i);
         let tag = r.tag;
-        let size = r.size;
+        let base = r.base.0;
+        let size = r.size.0;
+        let end = std::num::wrapping_add_u64(base, size);
         if !tag.legal(kind) {
             return Checked::Bad;
         }
-        if !r.fits(low, below) {
+        if end <= base {
             return Checked::Bad;
         }
-        let CheckedAddress::At(end) = r.end() else {
-            return Checked::Bad;
-        };
-        let CheckedSize::Of(sum) = total.plus(size) else {
-            return Checked::Bad;
-        };
-        total = sum;
+        if base <= low {
+            if base < low {
+                return Checked::Bad;
+            }
+            if below.is(tag) {
+                return Checked::Bad;
+            }
+        }
+        total += size;
         low = end;
         below = State::Present(tag);
         i += 1;
     }
-    Checked::Total(total)
+    Checked::Total(Size(total))
 }
 
 // Whether every byte from `at` on is 0.
@@ -75,7 +79,7 @@ fn rest_zero(t: &[u8], at: usize) -> bool
 }
 
 // The same, eight bytes at a time as far as they go.
-pub fn all_zero(t: &[u8], at: usize) -> bool
+fn few_zero(t: &[u8], at: usize) -> bool
     requires { ⌜ at ≤ length (now t) ⌝ }
     ensures { λ b. ⌜ b ≡ zeros (drop at (now (t .entry))) ⌝ }
 {
@@ -87,6 +91,41 @@ pub fn all_zero(t: &[u8], at: usize) -> bool
         i += 8;
     }
     rest_zero(t, i)
+}
+
+// Four words joined: 0 exactly when the 32 bytes from `i` on are.
+fn any4(t: &[u8], i: usize) -> u64
+    requires { ⌜ i + 32 ≤ length (now t) ⌝ }
+    ensures { λ r. ⌜ eqb r 0 ≡ zeros (take 32 (drop i (now (t .entry)))) ⌝ }
+{
+    get_u64(t, i) | get_u64(t, i + 8) | get_u64(t, i + 16) | get_u64(t, i + 24)
+}
+
+// Sixteen words joined: 0 exactly when the 128 bytes from `i` on are.
+fn any16(t: &[u8], i: usize) -> u64
+    requires { ⌜ i + 128 ≤ length (now t) ⌝ }
+    ensures { λ r. ⌜ eqb r 0 ≡ zeros (take 128 (drop i (now (t .entry)))) ⌝ }
+{
+    any4(t, i) | any4(t, i + 32) | any4(t, i + 64) | any4(t, i + 96)
+}
+
+// Whether every byte from `at` on is 0, 128 at a time, and what is left with the last 128.
+pub fn all_zero(t: &[u8], at: usize) -> bool
+    requires { ⌜ at ≤ length (now t) ⌝ }
+    ensures { λ b. ⌜ b ≡ zeros (drop at (now (t .entry))) ⌝ }
+{
+    let n = t.len();
+    let mut i = at;
+    while 128 <= n - i {
+        if any16(t, i) != 0 {
+            return false;
+        }
+        i += 128;
+    }
+    if 128 <= n - at {
+        return any16(t, n - 128) == 0;
+    }
+    few_zero(t, at)
 }
 
 // Checks a whole table: `count` records, and zeros behind them.
@@ -130,7 +169,7 @@ pub fn copy_front(dst: &mut [u8], src: &[u8], m: usize)
 }
 
 // Whether record `i` ends at or below `a`: one look at a record.
-fn ends_by(t: &[u8], i: usize, a: Address) -> bool
+pub fn ends_by(t: &[u8], i: usize, a: Address) -> bool
     requires { ⌜ 24 * i + 24 ≤ length (now t) ⌝ }
     ensures { λ b. ⌜ b ≡ leb (endOf (readRegion (drop (24 * i) (now (t .entry))))) (a .0) ⌝ }
 {
@@ -174,16 +213,6 @@ pub fn place(t: &[u8], count: usize, a: Address) -> usize
 {
     let p = halve(t, count, a);
     p.at
-}
-
-// Makes `t`, a whole table, hold the first `n` records of `src`, and zeros behind them.
-pub fn store_table(t: &mut [u8], src: &[u8], n: usize)
-    requires { ⌜ (24 * n ≤ length (now t)) × ((24 * n ≤ length (now src)) × (length (now t) ≡ 24 * (length (now t) / 24))) ⌝ }
-    ensures { λ _. ⌜ now (t .exit) ≡ tableBytes (length (now (t .entry)) / 24) (readRegions n (now (src .entry))) ⌝ }
-{
-    let m = 24 * n;
-    copy_front(t, src, m);
-    put_zeros(t, m);
 }
 
 // How many addresses the first `n` records say.

@@ -1,11 +1,15 @@
 -- `intake::e820::intake` meets its contract.
-use Rattle.intake.proofs.Whole.{not-good, ragged, too-long, taken-in, block-length}
+use Rattle.intake.proofs.Whole.{not-good, ragged, too-long, taken-in, block-length, is-good}
+use Rattle.tables.proofs.Setting.{small-layout}
 use borrow.Author.Needs.{needs}
 use Rattle.intake.proofs.e820.intake.Statement.{statement}
 use Rattle.intake.proofs.e820.intake.Tie as tie
 
-add-requires : tie.Need-add-requires
-add-requires c κs = search needs
+current-layout-requires : tie.Need-current-layout-requires
+current-layout-requires c κs = search needs
+
+block-good-requires : tie.Need-block-good-requires
+block-good-requires c κs = search (small-layout, needs)
 
 same-length : tie.Need-same-length
 same-length c = search needs
@@ -26,7 +30,7 @@ returns-3 : tie.Need-returns-3
 returns-3 c = search (too-long, needs)
 
 take-wholly-requires : tie.Need-take-wholly-requires
-take-wholly-requires c κs = search (block-length, needs)
+take-wholly-requires c κs = (search (block-length, needs), search (is-good, needs))
 
 same-length-4 : tie.Need-same-length-4
 same-length-4 c = search needs
@@ -38,7 +42,8 @@ pub intake-spec : {M : Type 1} → statement M
 intake-spec =
     tie.close
     (tie.spec
-    add-requires
+    current-layout-requires
+    block-good-requires
     same-length
     returns
     same-length-2

@@ -2,22 +2,25 @@
 use Prim.Native.Nat.{_-_, _≤_}
 use lib.ListN.{length}
 use mathlib.Core.Path.{_≡_, refl}
-use Rattle.tables.specs.Block.{current}
+use mathlib.Core.Bool.{true}
+use Rattle.address.specs.Numbers.{powerBelow}
+use Rattle.tables.specs.Block.{current, good}
 use Rattle.intake.specs.E820.{readEntries, entrySteps}
 use Rattle.intake.specs.Turns.{inTurn}
 use Rattle.intake.proofs.Turns.{Rest, entries-start, entries-refused, entries-next, entries-done}
+use Rattle.intake.proofs.Good.{entry-good}
 use borrow.Author.Needs.{needs}
 use Rattle.intake.proofs.e820.take_in_turn.Statement.{statement}
 use Rattle.intake.proofs.e820.take_in_turn.Tie as tie
 
 abbrev Inv-loop : tie.InvT-loop
-Inv-loop block₀ report count i₀ block i = (i ≤ count) × ((length block ≡ length block₀) × (inTurn (entrySteps current (readEntries count report)) block₀ ≡ Rest report count i block))
+Inv-loop block₀ report count i₀ block i = (i ≤ count) × ((length block ≡ length block₀) × ((good current block ≡ true) × (inTurn (entrySteps current (readEntries count report)) block₀ ≡ Rest report count i block)))
 
 abbrev μ-loop : tie.MeasureT-loop
 μ-loop block₀ report count i₀ block i = count - i
 
 loop-holds : tie.Need-loop-holds Inv-loop μ-loop
-loop-holds c = (search needs, (refl, entries-start _ _ _))
+loop-holds c = (search needs, (refl, (search needs, entries-start _ _ _)))
 
 mul-get-entry : tie.Need-mul-get-entry Inv-loop μ-loop
 mul-get-entry c = search needs
@@ -41,10 +44,11 @@ loop-less : tie.Need-loop-less Inv-loop μ-loop
 loop-less c = search needs
 
 loop-again : tie.Need-loop-again Inv-loop μ-loop
-loop-again c = (search needs, (search needs, search (entries-next, needs)))
+loop-again c = (search needs, (search needs, (search (entry-good, needs), search (entries-next, needs))))
 
-trim-requires : tie.Need-trim-requires Inv-loop μ-loop
-trim-requires c κs = search needs
+trim-on-good-requires : tie.Need-trim-on-good-requires Inv-loop μ-loop
+unfolding powerBelow
+trim-on-good-requires c κs = (search needs, refl)
 
 same-length-2 : tie.Need-same-length-2 Inv-loop μ-loop
 same-length-2 c = search needs
@@ -67,6 +71,6 @@ take-in-turn-spec =
     add-i
     loop-less
     loop-again
-    trim-requires
+    trim-on-good-requires
     same-length-2
     returns-2)

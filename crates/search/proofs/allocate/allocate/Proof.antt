@@ -2,8 +2,8 @@
 use Rattle.search.specs.declared.fit.Found.the-variants.{At, Nothing}
 use Rattle.search.specs.declared.find.Asked.the-variants.{Fine}
 use mathlib.Core.Path.{_≡_}
-use Rattle.search.proofs.Answering.{fine-ready, found-ends}
-use Rattle.search.proofs.Allocating.{allocate-no-slip, allocate-refused, allocate-none, allocate-some}
+use Rattle.search.proofs.Answering.{fine-ready}
+use Rattle.search.proofs.Allocating.{found-vacant, allocate-no-slip, allocate-refused, allocate-none, allocate-some}
 use borrow.Author.Needs.{needs}
 use Rattle.search.proofs.allocate.allocate.Statement.{statement}
 use Rattle.search.proofs.allocate.allocate.Tie as tie
@@ -68,7 +68,8 @@ take-found-requires c κs =
     let f = check-fine (c .before .before .before .before .before .before .before .before) in
     let g = found-at (c .before .before .before) in
     let r = fine-ready _ _ _ (x .ensures) f in
-    (r .good, (found-ends _ (c .before .before .before .before .before .before .before .before .before .before .before .before .before .before .before .before .before .before .before .args .q) r _ (c .before .before .before .before .before .before .find-in .ensures) _ g, c .before .before .before .before .before .before .before .before .before .before .before .before .before .before .clear-slip .ensures))
+    let v = found-vacant _ (c .before .before .before .before .before .before .before .before .before .before .before .before .before .before .before .before .before .before .before .args .q) r _ (c .before .before .before .before .before .before .find-in .ensures) _ g in
+    (r .good, ((r .size, v), c .before .before .before .before .before .before .before .before .before .before .before .before .before .before .clear-slip .ensures))
 
 same-length-5 : tie.Need-same-length-5
 same-length-5 c = search needs

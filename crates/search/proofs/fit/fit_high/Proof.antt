@@ -1,5 +1,5 @@
 -- `search::fit::fit_high` meets its contract.
-use Rattle.search.proofs.Fits.{high-none, high-short, high-found}
+use Rattle.search.proofs.Fits.{high-none, high-narrow, high-short, high-found}
 use borrow.Author.Needs.{needs}
 use Rattle.search.proofs.fit.fit_high.Statement.{statement}
 use Rattle.search.proofs.fit.fit_high.Tie as tie
@@ -22,14 +22,17 @@ enum-told c = search needs
 returns : tie.Need-returns
 returns c = search (high-none, needs)
 
+returns-2 : tie.Need-returns-2
+returns-2 c = search (high-narrow, needs)
+
 down-requires : tie.Need-down-requires
 down-requires c κs = search needs
 
-returns-2 : tie.Need-returns-2
-returns-2 c = search (high-short, needs)
-
 returns-3 : tie.Need-returns-3
-returns-3 c = search (high-found, needs)
+returns-3 c = search (high-short, needs)
+
+returns-4 : tie.Need-returns-4
+returns-4 c = search (high-found, needs)
 
 pub fit-high-spec : {M : Type 1} → statement M
 fit-high-spec =
@@ -41,6 +44,7 @@ fit-high-spec =
     enum-known-last
     enum-told
     returns
-    down-requires
     returns-2
-    returns-3)
+    down-requires
+    returns-3
+    returns-4)

@@ -1,6 +1,6 @@
 -- `tables::commands::add` meets its contract.
 use Rattle.tables.proofs.Blocks.{good-here}
-use Rattle.tables.proofs.Commanding.{add-bad, add-tag, add-good}
+use Rattle.tables.proofs.Commanding.{add-bad, add-tag, tag-legal}
 use Rattle.tables.proofs.Setting.{small-layout}
 use borrow.Author.Needs.{needs}
 use Rattle.tables.proofs.commands.add.Statement.{statement}
@@ -28,14 +28,14 @@ same-length-2 c = search needs
 returns-2 : tie.Need-returns-2
 returns-2 c = search (add-tag, needs)
 
-change-range-requires : tie.Need-change-range-requires
-change-range-requires c κs = search (good-here, needs)
+add-on-good-requires : tie.Need-add-on-good-requires
+add-on-good-requires c κs = (search (good-here, needs), search (tag-legal, needs))
 
 same-length-3 : tie.Need-same-length-3
 same-length-3 c = search needs
 
 returns-3 : tie.Need-returns-3
-returns-3 c = search (add-good, needs)
+returns-3 c = search needs
 
 pub add-spec : {M : Type 1} → statement M
 add-spec =
@@ -48,6 +48,6 @@ add-spec =
     legal-requires
     same-length-2
     returns-2
-    change-range-requires
+    add-on-good-requires
     same-length-3
     returns-3)

@@ -1,6 +1,6 @@
 -- `tables::commands::trim` meets its contract.
 use Rattle.tables.proofs.Blocks.{good-here}
-use Rattle.tables.proofs.Commanding.{power-some, trim-bad, trim-power, trim-good}
+use Rattle.tables.proofs.Commanding.{trim-bad, trim-power, power-right}
 use Rattle.tables.proofs.Setting.{small-layout}
 use borrow.Author.Needs.{needs}
 use Rattle.tables.proofs.commands.trim.Statement.{statement}
@@ -27,14 +27,14 @@ same-length-2 c = search needs
 returns-2 : tie.Need-returns-2
 returns-2 c = search (trim-power, needs)
 
-trim-memory-requires : tie.Need-trim-memory-requires
-trim-memory-requires c κs = search (good-here, power-some, needs)
+trim-on-good-requires : tie.Need-trim-on-good-requires
+trim-on-good-requires c κs = (search (good-here, needs), search (power-right, needs))
 
 same-length-3 : tie.Need-same-length-3
 same-length-3 c = search needs
 
 returns-3 : tie.Need-returns-3
-returns-3 c = search (trim-good, needs)
+returns-3 c = search needs
 
 pub trim-spec : {M : Type 1} → statement M
 trim-spec =
@@ -47,6 +47,6 @@ trim-spec =
     power-of-two-requires
     same-length-2
     returns-2
-    trim-memory-requires
+    trim-on-good-requires
     same-length-3
     returns-3)

@@ -1,23 +1,26 @@
 -- `tables::range::change_range` meets its contract.
-use Rattle.tables.proofs.Ranging.{editable, range-table, range-full, range-room, range-rises, range-done}
-use Rattle.tables.proofs.Storing.{capacity-small, span-le, span-room}
-use Rattle.tables.proofs.Blocks.{good-length}
-use Rattle.tables.specs.Block.{current}
-use Rattle.tables.specs.declared.change.Pushed.the-variants.{Count, Full}
 use mathlib.Core.Path.{_≡_}
 use native.Mathlib.Omega.{arith}
+use Rattle.regions.proofs.Numbers.{bytes-all}
+use Rattle.tables.specs.Block.{current}
+use Rattle.tables.specs.declared.inplace.Changed.the-variants.{To, NoRoom}
+use Rattle.tables.proofs.Blocks.{good-length}
+use Rattle.tables.proofs.Setting.{small-layout}
+use Rattle.tables.proofs.Storing.{span-le}
+use Rattle.tables.proofs.Ranging.{editable, range-whole, range-changeable, range-full, range-done}
 use borrow.Author.Needs.{needs}
 use Rattle.tables.proofs.range.change_range.Statement.{statement}
 use Rattle.tables.proofs.range.change_range.Tie as tie
 
-list-count : (c : tie.After-known-told) → c .before .before .before .before .change-list .result ≡ Count (c .before .n .given .0 .0)
-list-count c = search needs
+table-to : (c : tie.After-known-told) → c .before .before .before .before .before .change-table .result ≡ To (c .before .new .given .0 .0)
+table-to c = search needs
 
 table-span-requires : tie.Need-table-span-requires
 table-span-requires c κs = search needs
 
 get-header-requires : tie.Need-get-header-requires
-get-header-requires c κs = omega (arith, good-length current _ (c .before .before .before .pre .0))
+get-header-requires c κs =
+    omega (arith, good-length current _ (c .before .before .before .pre .0))
 
 tally-requires : tie.Need-tally-requires
 tally-requires c κs = search needs
@@ -25,34 +28,29 @@ tally-requires c κs = search needs
 cut-end-requires : tie.Need-cut-end-requires
 cut-end-requires c κs = search needs
 
-sub-change-list : tie.Need-sub-change-list
-sub-change-list c = search needs
+sub-change-table : tie.Need-sub-change-table
+sub-change-table c = search needs
 
-part-change-list-start : tie.Need-part-change-list-start
-part-change-list-start c = search needs
+part-change-table-start : tie.Need-part-change-table-start
+part-change-table-start c = search needs
 
-part-change-list-end : tie.Need-part-change-list-end
-part-change-list-end c =
-    let h = span-le _ _ _ (c .before .before .before .before .before .before .before .pre .0) (c .before .before .before .before .before .table-span .ensures .1) in
+part-change-table-end : tie.Need-part-change-table-end
+part-change-table-end c =
+    let h = span-le _ _ _ (c .before .before .before .before .before .before .pre .0) (c .before .before .before .before .table-span .ensures .1) in
     search needs
 
-cast-change-list : tie.Need-cast-change-list
-cast-change-list c = search needs
+change-table-requires : tie.Need-change-table-requires
+change-table-requires c κs =
+    let s = c .before .before .before .before .before .before .before in
+    let y = c .before .before .before .before .before .table-span .ensures in
+    let h = c .before .before .before .get-header .ensures in
+    let t = c .before .before .tally .ensures in
+    let u = c .before .cut-end .ensures in
+    let bs = bytes-all _ (c .before .before .before .before .before .before .slice-known .given) in
+    (range-whole _ (s .pre .0) (s .args .kind) _ _ (y .0) (y .1) _ h _ t bs, range-changeable _ (s .pre .0) (s .args .kind) _ _ (y .0) (y .1) _ h _ t _ (s .pre .1) (editable (s .args .kind) _ (s .args .base) _ _ (s .pre .1) (omega arith) u))
 
-slice-aggregate-change-list : tie.Need-slice-aggregate-change-list
-slice-aggregate-change-list c = search needs
-
-change-list-requires : tie.Need-change-list-requires
-change-list-requires c κs =
-    let s = c .before .before .before .before .before .before .before .before .before .before in
-    let y = c .before .before .before .before .before .before .before .before .table-span .ensures in
-    let h = span-room (s .args .kind) _ _ _ (s .pre .0) (y .0) (y .1) in (
-      range-table _ (s .pre .0) (s .args .kind) _ _ (y .0) (y .1) _ (c .before .before .before .before .before .before .get-header .ensures) _ (c .before .before .before .before .before .tally .ensures),
-      (omega (arith, capacity-small (s .args .kind)), editable _ (s .args .base) _ _ (s .pre .1) (omega arith) (c .before .before .before .before .cut-end .ensures)),
-    )
-
-enum-known-n : tie.Need-enum-known-n
-enum-known-n c = search needs
+enum-known-new : tie.Need-enum-known-new
+enum-known-new c = search needs
 
 enum-told : tie.Need-enum-told
 enum-told c = search needs
@@ -62,49 +60,40 @@ same-length c = search needs
 
 returns : tie.Need-returns
 returns c =
-    let s = c .before .before .before .before .before .before .before .before .before .before .before .before .before .before in
-    let y = c .before .before .before .before .before .before .before .before .before .before .before .before .table-span .ensures in
-    let x = c .before .before .before .change-list in
-    let f : x .result ≡ Full = search needs in
-    range-full _ (s .pre .0) (s .args .kind) _ _ (y .0) (y .1) _ (c .before .before .before .before .before .before .before .before .before .before .get-header .ensures) _ (c .before .before .before .before .before .before .before .before .before .tally .ensures) _ (s .args .base) _ _
-    (c .before .before .before .before .before .before .before .before .cut-end .ensures) _ _ (x .ensures) f
+    let s = c .before .before .before .before .before .before .before .before .before .before .before .before in
+    let y = c .before .before .before .before .before .before .before .before .before .before .table-span .ensures in
+    let h = c .before .before .before .before .before .before .before .before .get-header .ensures in
+    let t = c .before .before .before .before .before .before .before .tally .ensures in
+    let u = c .before .before .before .before .before .before .cut-end .ensures in
+    let x = c .before .before .before .before .change-table in
+    let f : x .result ≡ NoRoom = search needs in
+    range-full _ (s .pre .0) (s .args .kind) _ _ (y .0) (y .1) _ h _ t _ (s .args .base) _ _ u _ _ (x .ensures) f
 
-slice-aggregate-store-list : tie.Need-slice-aggregate-store-list
-slice-aggregate-store-list c = search needs
+current-layout-requires : tie.Need-current-layout-requires
+current-layout-requires c κs = search needs
 
-store-list-requires : tie.Need-store-list-requires
-store-list-requires c κs =
-    let s = c .before .before .before .before .before .before .before .before .before .before .before .before .before .before .before .before .before in
-    let y = c .before .before .before .before .before .before .before .before .before .before .before .before .before .before .before .table-span .ensures in
-    let x = c .before .before .before .before .before .before .change-list in
-    let f = list-count (c .before .before) in
-    let h = c .before .before .before .before .before .before .before .before .before .before .before .before .before .get-header .ensures in
-    let t = c .before .before .before .before .before .before .before .before .before .before .before .before .tally .ensures in
-    let e = c .before .before .before .before .before .before .before .before .before .before .before .cut-end .ensures in
-    let r = range-room _ (s .pre .0) (s .args .kind) _ _ (y .0) (y .1) _ h _ t _ (s .args .base) _ _ e _ _ (x .ensures) _ f in (
-      s .pre .0,
-      (
-        r,
-        (
-          omega (arith, r, capacity-small (s .args .kind), x .kept),
-          range-rises _ (s .pre .0) (s .args .kind) _ _ (y .0) (y .1) _ h _ t _ (s .args .base) _ _ e _ _ (x .ensures) _ f,
-        ),
-      ),
-    )
+with-tally-requires : tie.Need-with-tally-requires
+with-tally-requires c κs = search needs
+
+put-header-requires : tie.Need-put-header-requires
+put-header-requires c κs =
+    let s = c .before .before .before .before .before .before .before .before .before .before .before .before .before .before .before .before in
+    (omega (arith, good-length current _ (s .pre .0), c .before .before .before .before .before .before .before .before .change-table .kept), small-layout _ (c .before .current-layout .ensures))
 
 same-length-2 : tie.Need-same-length-2
 same-length-2 c = search needs
 
 returns-2 : tie.Need-returns-2
 returns-2 c =
-    let s = c .before .before .before .before .before .before .before .before .before .before .before .before .before .before .before .before .before .before .before .before in
-    let y = c .before .before .before .before .before .before .before .before .before .before .before .before .before .before .before .before .before .before .table-span .ensures in
-    let x = c .before .before .before .before .before .before .before .before .before .change-list in
-    let f = list-count (c .before .before .before .before .before) in
-    let h = c .before .before .before .before .before .before .before .before .before .before .before .before .before .before .before .before .get-header .ensures in
-    let t = c .before .before .before .before .before .before .before .before .before .before .before .before .before .before .before .tally .ensures in
-    let e = c .before .before .before .before .before .before .before .before .before .before .before .before .before .before .cut-end .ensures in
-    range-done _ (s .pre .0) (s .args .kind) _ _ (y .0) (y .1) _ h _ t _ (s .args .base) _ _ e _ _ (x .ensures) _ f _ (c .before .before .store-list .ensures)
+    let s = c .before .before .before .before .before .before .before .before .before .before .before .before .before .before .before .before .before .before .before in
+    let y = c .before .before .before .before .before .before .before .before .before .before .before .before .before .before .before .before .before .table-span .ensures in
+    let h = c .before .before .before .before .before .before .before .before .before .before .before .before .before .before .before .get-header .ensures in
+    let t = c .before .before .before .before .before .before .before .before .before .before .before .before .before .before .tally .ensures in
+    let u = c .before .before .before .before .before .before .before .before .before .before .before .before .before .cut-end .ensures in
+    let bs = bytes-all _ (c .before .before .before .before .before .before .before .before .before .before .before .before .before .before .before .before .before .before .slice-known .given) in
+    let x = c .before .before .before .before .before .before .before .before .before .before .before .change-table in
+    let f = table-to (c .before .before .before .before .before .before) in
+    range-done _ (s .pre .0) (s .args .kind) _ _ (y .0) (y .1) _ h _ t _ (s .args .base) _ _ u _ _ (x .ensures) _ f bs _ (c .before .before .before .before .current-layout .ensures) _ (c .before .before .before .with-tally .ensures) _ (c .before .before .put-header .ensures)
 
 pub change-range-spec : {M : Type 1} → statement M
 change-range-spec =
@@ -114,17 +103,16 @@ change-range-spec =
     get-header-requires
     tally-requires
     cut-end-requires
-    sub-change-list
-    part-change-list-start
-    part-change-list-end
-    cast-change-list
-    slice-aggregate-change-list
-    change-list-requires
-    enum-known-n
+    sub-change-table
+    part-change-table-start
+    part-change-table-end
+    change-table-requires
+    enum-known-new
     enum-told
     same-length
     returns
-    slice-aggregate-store-list
-    store-list-requires
+    current-layout-requires
+    with-tally-requires
+    put-header-requires
     same-length-2
     returns-2)

@@ -1,30 +1,31 @@
 -- `tables::table::all_zero` meets its contract.
 use Prim.Native.Nat.{_-_, _≤_}
-use lib.ListN.{length, drop}
+use lib.ListN.{length, take, drop}
 use mathlib.Core.Path.{_≡_}
+use mathlib.Core.Bool.{true}
 use Rattle.tables.specs.Checks.{zeros}
-use Rattle.tables.proofs.Zeros.{zeros-rest, zeros-hit8, zeros-again8}
+use Rattle.tables.proofs.Zeros.{none-yet, zero-turn, turn-hit, zero-last}
 use borrow.Author.Needs.{needs}
 use Rattle.tables.proofs.table.all_zero.Statement.{statement}
 use Rattle.tables.proofs.table.all_zero.Tie as tie
 
 abbrev Inv-loop : tie.InvT-loop
-Inv-loop t at i₀ i = (i ≤ length t) × (zeros (drop at t) ≡ zeros (drop i t))
+Inv-loop t at n i₀ i = (at ≤ i) × ((i ≤ length t) × (zeros (take (i - at) (drop at t)) ≡ true))
 
 abbrev μ-loop : tie.MeasureT-loop
-μ-loop t at i₀ i = length t - i
+μ-loop t at n i₀ i = length t - i
 
 loop-holds : tie.Need-loop-holds Inv-loop μ-loop
-loop-holds c = search needs
+loop-holds c = search (none-yet, needs)
 
 sub-loop : tie.Need-sub-loop Inv-loop μ-loop
 sub-loop c = search needs
 
-get-u64-requires : tie.Need-get-u64-requires Inv-loop μ-loop
-get-u64-requires c κs = search needs
+any16-requires : tie.Need-any16-requires Inv-loop μ-loop
+any16-requires c κs = search needs
 
 returns : tie.Need-returns Inv-loop μ-loop
-returns c = search (zeros-hit8, needs)
+returns c = search (turn-hit, needs)
 
 add-i : tie.Need-add-i Inv-loop μ-loop
 add-i c = search needs
@@ -33,13 +34,25 @@ loop-less : tie.Need-loop-less Inv-loop μ-loop
 loop-less c = search needs
 
 loop-again : tie.Need-loop-again Inv-loop μ-loop
-loop-again c = (search needs, search (zeros-again8, needs))
+loop-again c = (search needs, (search needs, search (zero-turn, needs)))
 
-rest-zero-requires : tie.Need-rest-zero-requires Inv-loop μ-loop
-rest-zero-requires c κs = search needs
+sub-if2 : tie.Need-sub-if2 Inv-loop μ-loop
+sub-if2 c = search needs
+
+sub-any16 : tie.Need-sub-any16 Inv-loop μ-loop
+sub-any16 c = search needs
+
+any16-requires-2 : tie.Need-any16-requires-2 Inv-loop μ-loop
+any16-requires-2 c κs = search needs
 
 returns-2 : tie.Need-returns-2 Inv-loop μ-loop
-returns-2 c = search (zeros-rest, needs)
+returns-2 c = search (zero-last, needs)
+
+few-zero-requires : tie.Need-few-zero-requires Inv-loop μ-loop
+few-zero-requires c κs = search needs
+
+returns-3 : tie.Need-returns-3 Inv-loop μ-loop
+returns-3 c = search needs
 
 pub all-zero-spec : {M : Type 1} → statement M
 all-zero-spec =
@@ -49,10 +62,14 @@ all-zero-spec =
     μ-loop
     loop-holds
     sub-loop
-    get-u64-requires
+    any16-requires
     returns
     add-i
     loop-less
     loop-again
-    rest-zero-requires
-    returns-2)
+    sub-if2
+    sub-any16
+    any16-requires-2
+    returns-2
+    few-zero-requires
+    returns-3)

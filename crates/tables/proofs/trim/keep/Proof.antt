@@ -1,6 +1,7 @@
 -- `tables::trim::keep` meets its contract.
-use Rattle.tables.proofs.Trimming.{keep-none, keep-left}
+use Rattle.tables.proofs.Trimming.{keep-none, keep-left, keep-rest}
 use Rattle.regions.proofs.Records.{Fit}
+use mathlib.Core.Path.{refl}
 use native.Mathlib.Omega.{arith}
 use borrow.Author.Needs.{needs}
 use Rattle.tables.proofs.trim.keep.Statement.{statement}
@@ -13,7 +14,7 @@ enum-told : tie.Need-enum-told
 enum-told c = search needs
 
 returns : tie.Need-returns
-returns c = (search needs, search (keep-none, needs))
+returns c = (search needs, (search (keep-none, needs), refl))
 
 mul-put-region : tie.Need-mul-put-region
 mul-put-region c = search needs
@@ -30,7 +31,7 @@ same-length c = search needs
 returns-2 : tie.Need-returns-2
 returns-2 c =
     let f : Fit (c .before .before .before .before .before .x .given .0 .0) = record { base = omega arith; size = omega arith; flags = omega arith; node = omega arith } in
-    (search needs, search (keep-left, needs))
+    (search needs, (search (keep-left, needs), search (keep-rest, needs)))
 
 pub keep-spec : {M : Type 1} → statement M
 keep-spec =

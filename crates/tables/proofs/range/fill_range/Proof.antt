@@ -1,0 +1,119 @@
+-- `tables::range::fill_range` meets its contract.
+use mathlib.Core.Path.{_≡_}
+use native.Mathlib.Omega.{arith}
+use Rattle.regions.proofs.Numbers.{bytes-all}
+use Rattle.tables.specs.Block.{current}
+use Rattle.tables.specs.declared.inplace.Changed.the-variants.{To, NoRoom}
+use Rattle.tables.proofs.Blocks.{good-length}
+use Rattle.tables.proofs.Setting.{small-layout}
+use Rattle.tables.proofs.Storing.{span-le}
+use Rattle.tables.proofs.Ranging.{range-whole, range-vacant, range-full, range-done}
+use borrow.Author.Needs.{needs}
+use Rattle.tables.proofs.range.fill_range.Statement.{statement}
+use Rattle.tables.proofs.range.fill_range.Tie as tie
+
+table-to : (c : tie.After-known-told) → c .before .before .before .before .before .fill-table .result ≡ To (c .before .new .given .0 .0)
+table-to c = search needs
+
+table-span-requires : tie.Need-table-span-requires
+table-span-requires c κs = search needs
+
+get-header-requires : tie.Need-get-header-requires
+get-header-requires c κs =
+    omega (arith, good-length current _ (c .before .before .before .pre .0))
+
+tally-requires : tie.Need-tally-requires
+tally-requires c κs = search needs
+
+cut-end-requires : tie.Need-cut-end-requires
+cut-end-requires c κs = search needs
+
+sub-fill-table : tie.Need-sub-fill-table
+sub-fill-table c = search needs
+
+part-fill-table-start : tie.Need-part-fill-table-start
+part-fill-table-start c = search needs
+
+part-fill-table-end : tie.Need-part-fill-table-end
+part-fill-table-end c =
+    let h = span-le _ _ _ (c .before .before .before .before .before .before .pre .0) (c .before .before .before .before .table-span .ensures .1) in
+    search needs
+
+fill-table-requires : tie.Need-fill-table-requires
+fill-table-requires c κs =
+    let s = c .before .before .before .before .before .before .before in
+    let y = c .before .before .before .before .before .table-span .ensures in
+    let h = c .before .before .before .get-header .ensures in
+    let t = c .before .before .tally .ensures in
+    let u = c .before .cut-end .ensures in
+    let bs = bytes-all _ (c .before .before .before .before .before .before .slice-known .given) in
+    let p = s .pre .1 in
+    (range-whole _ (s .pre .0) (s .args .kind) _ _ (y .0) (y .1) _ h _ t bs, (omega (arith, u), (omega (arith, u), range-vacant _ (s .pre .0) (s .args .kind) _ _ (y .0) (y .1) _ h _ t (s .args .base) _ _ u (p .1 .0) (p .1 .1))))
+
+enum-known-new : tie.Need-enum-known-new
+enum-known-new c = search needs
+
+enum-told : tie.Need-enum-told
+enum-told c = search needs
+
+same-length : tie.Need-same-length
+same-length c = search needs
+
+returns : tie.Need-returns
+returns c =
+    let s = c .before .before .before .before .before .before .before .before .before .before .before .before in
+    let y = c .before .before .before .before .before .before .before .before .before .before .table-span .ensures in
+    let h = c .before .before .before .before .before .before .before .before .get-header .ensures in
+    let t = c .before .before .before .before .before .before .before .tally .ensures in
+    let u = c .before .before .before .before .before .before .cut-end .ensures in
+    let x = c .before .before .before .before .fill-table in
+    let f : x .result ≡ NoRoom = search needs in
+    range-full _ (s .pre .0) (s .args .kind) _ _ (y .0) (y .1) _ h _ t _ (s .args .base) _ _ u _ _ (x .ensures) f
+
+current-layout-requires : tie.Need-current-layout-requires
+current-layout-requires c κs = search needs
+
+with-tally-requires : tie.Need-with-tally-requires
+with-tally-requires c κs = search needs
+
+put-header-requires : tie.Need-put-header-requires
+put-header-requires c κs =
+    let s = c .before .before .before .before .before .before .before .before .before .before .before .before .before .before .before .before in
+    (omega (arith, good-length current _ (s .pre .0), c .before .before .before .before .before .before .before .before .fill-table .kept), small-layout _ (c .before .current-layout .ensures))
+
+same-length-2 : tie.Need-same-length-2
+same-length-2 c = search needs
+
+returns-2 : tie.Need-returns-2
+returns-2 c =
+    let s = c .before .before .before .before .before .before .before .before .before .before .before .before .before .before .before .before .before .before .before in
+    let y = c .before .before .before .before .before .before .before .before .before .before .before .before .before .before .before .before .before .table-span .ensures in
+    let h = c .before .before .before .before .before .before .before .before .before .before .before .before .before .before .before .get-header .ensures in
+    let t = c .before .before .before .before .before .before .before .before .before .before .before .before .before .before .tally .ensures in
+    let u = c .before .before .before .before .before .before .before .before .before .before .before .before .before .cut-end .ensures in
+    let bs = bytes-all _ (c .before .before .before .before .before .before .before .before .before .before .before .before .before .before .before .before .before .before .slice-known .given) in
+    let x = c .before .before .before .before .before .before .before .before .before .before .before .fill-table in
+    let f = table-to (c .before .before .before .before .before .before) in
+    range-done _ (s .pre .0) (s .args .kind) _ _ (y .0) (y .1) _ h _ t _ (s .args .base) _ _ u _ _ (x .ensures) _ f bs _ (c .before .before .before .before .current-layout .ensures) _ (c .before .before .before .with-tally .ensures) _ (c .before .before .put-header .ensures)
+
+pub fill-range-spec : {M : Type 1} → statement M
+fill-range-spec =
+    tie.close
+    (tie.spec
+    table-span-requires
+    get-header-requires
+    tally-requires
+    cut-end-requires
+    sub-fill-table
+    part-fill-table-start
+    part-fill-table-end
+    fill-table-requires
+    enum-known-new
+    enum-told
+    same-length
+    returns
+    current-layout-requires
+    with-tally-requires
+    put-header-requires
+    same-length-2
+    returns-2)

@@ -1,14 +1,16 @@
 -- A number is a power of two exactly when one of its binary digits is set. Assumes nothing.
-use Prim.Native.Nat.{ℕ, zero, suc, _+_, _*_, _/_, _%_, _^_, _≤_, _<_}
+use Prim.Native.Nat.{ℕ, zero, suc, _+_, _-_, _*_, _/_, _%_, _^_, _≤_, _<_}
 use mathlib.Core.Path.{_≡_, refl, sym, ap, ap₂, _∙_}
 use mathlib.Core.Bool.{Bool, true, false, _||_}
 use mathlib.Core.Logic.{_⊎_, inl, inr}
 use native.Mathlib.Omega.{arith}
 use native.Mathlib.Nat.{pow-suc, div-add-mod'}
 use lib.Dec.{eqb, lit<}
+use lib.Bits.{bitAnd, and-mask}
+use lib.Pow.{pow-pos}
 use lib.Count.{ones, ones-step, ones-le}
 use borrow.Author.Tests.{eq-eqb, ne-eqb, eqb-true, eqb-false}
-use Rattle.address.specs.Numbers.{powerBelow}
+use Rattle.address.specs.Numbers.{powerBelow, powerOfTwo}
 use Rattle.address.proofs.Tests.{le-or-lt}
 
 same : (a b c d : ℕ) → (a ≡ b → c ≡ d) → (c ≡ d → a ≡ b) → eqb a b ≡ eqb c d
@@ -98,3 +100,15 @@ power-of (suc k) j h = go (le-or-lt k j) (power-of k j)
     go : (k ≤ j) ⊎ (j < k) → (j < k → powerBelow k (2 ^ j) ≡ true) → eqb (2 ^ j) (2 ^ k) || powerBelow k (2 ^ j) ≡ true
     go (inl l) ih = let e : j ≡ k = omega arith in rw (e, eq-eqb (2 ^ k) (2 ^ k) refl)
     go (inr l) ih = rw (ih l) (or-right (eqb (2 ^ j) (2 ^ k)))
+
+-- a power of two is not 0
+pub power-some : (k : ℕ) → powerOfTwo k ≡ true → 0 < k
+power-some k e =
+    let p = power-is 64 k e in
+    omega (arith, pow-pos (p .0), p .2)
+
+-- the digits below a power of two are the remainder by it
+pub power-mask : (x k : ℕ) → powerOfTwo k ≡ true → bitAnd x (k - 1) ≡ x % k
+power-mask x k e =
+    let p = power-is 64 k e in
+    rw (p .2) (and-mask x (p .0))

@@ -4,17 +4,26 @@ use mathlib.Core.Path.{_≡_, refl, sym, ap, _∙_}
 use mathlib.Core.Bool.{Bool, true, false, cond}
 use mathlib.Core.Logic.{_⊎_, inl, inr}
 use native.Mathlib.Omega.{arith}
-use native.Mathlib.Nat.{mod-add-mod, mod-self, mod-lt, mod-eq-of-lt, div-add-mod', mul-mod-left, mul-add-mod-self-right}
+use native.Mathlib.Nat.{mod-add-mod, mod-self, mod-le, mod-lt, mod-eq-of-lt, div-add-mod', mul-mod-left, mul-add-mod-self-right}
 use lib.Dec.{eqb}
 use borrow.Author.Tests.{eq-eqb, ne-eqb, eqb-true, eqb-false}
-use Rattle.address.specs.Numbers.{up, down}
+use Rattle.address.specs.Numbers.{up, down, powerOfTwo}
 use Rattle.address.proofs.Tests.{le-or-lt}
+use Rattle.address.proofs.Powers.{power-some}
 
-pub up-even : (n k : ℕ) → n % k ≡ 0 → up n k ≡ n
-up-even n k e = rw (eq-eqb (n % k) 0 e)
+-- by the remainder r
+module _ (n k r : ℕ) (q : r ≡ n % k) where
+  pub up-even : r ≡ 0 → up n k ≡ n
+  up-even e = rw (eq-eqb (n % k) 0 (sym q ∙ e))
 
-pub up-odd : (n k : ℕ) → (n % k ≡ 0 → ⊥) → up n k ≡ n + (k - n % k)
-up-odd n k e = rw (ne-eqb (n % k) 0 e)
+  pub up-odd : (r ≡ 0 → ⊥) → up n k ≡ n + (k - r)
+  up-odd e = rw (ne-eqb (n % k) 0 (λ z. e (q ∙ z)), q)
+
+  pub rest-le : r ≤ n
+  rest-le = omega (arith, mod-le n k)
+
+  pub rest-lt : powerOfTwo k ≡ true → r ≤ k
+  rest-lt p = omega (arith, mod-lt n (power-some k p))
 
 module _ (x k : ℕ) (pos : 0 < k) where
   pub up-ge : x ≤ up x k

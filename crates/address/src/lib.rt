@@ -1,6 +1,7 @@
 // Addresses and sizes: two types that cannot change places, with checked sums, rounding and the power-of-two test.
 ghost use mathlib.Core.Path.{_≡_};
-ghost use Prim.Native.Nat.{ℕ, _+_, _<_, min, max};
+ghost use mathlib.Core.Bool.{true};
+ghost use Prim.Native.Nat.{_+_, _%_, min, max};
 ghost use Rattle.address.specs.Numbers.{up as roundUp, down as roundDown, powerOfTwo, address, difference, size};
 
 // A place in memory, 0 to 2^64 - 1.
@@ -19,6 +20,14 @@ pub enum CheckedAddress {
 pub enum CheckedSize {
     Of(Size),
     Outside,
+}
+
+// What `x` is past the multiple of a power of two below it.
+fn remainder(x: u64, by: u64) -> u64
+    requires { ⌜ powerOfTwo by ≡ true ⌝ }
+    ensures { λ r. ⌜ r ≡ x % by ⌝ }
+{
+    x & (by - 1)
 }
 
 impl Address {
@@ -42,24 +51,24 @@ impl Address {
         CheckedAddress::At(Address(self.0 - by.0))
     }
 
-    // The lowest multiple of `by` at or above.
+    // The lowest multiple of `by`, a power of two, at or above.
     pub fn up(self, by: Size) -> CheckedAddress
-        requires { ⌜ 0 < by .0 ⌝ }
+        requires { ⌜ powerOfTwo (by .0) ≡ true ⌝ }
         ensures { λ r. ⌜ r ≡ address (roundUp (self .0) (by .0)) ⌝ }
     {
-        let over = self.0 % by.0;
+        let over = remainder(self.0, by.0);
         if over == 0 {
             return CheckedAddress::At(self);
         }
         self.plus(Size(by.0 - over))
     }
 
-    // The highest multiple of `by` at or below.
+    // The highest multiple of `by`, a power of two, at or below.
     pub fn down(self, by: Size) -> Address
-        requires { ⌜ 0 < by .0 ⌝ }
+        requires { ⌜ powerOfTwo (by .0) ≡ true ⌝ }
         ensures { λ r. ⌜ r .0 ≡ roundDown (self .0) (by .0) ⌝ }
     {
-        Address(self.0 - self.0 % by.0)
+        Address(self.0 - remainder(self.0, by.0))
     }
 
     // The higher of the two.
@@ -90,10 +99,10 @@ impl Size {
 
     // The least multiple of `by` that is no less.
     pub fn up(self, by: Size) -> CheckedSize
-        requires { ⌜ 0 < by .0 ⌝ }
+        requires { ⌜ powerOfTwo (by .0) ≡ true ⌝ }
         ensures { λ r. ⌜ r ≡ size (roundUp (self .0) (by .0)) ⌝ }
     {
-        let over = self.0 % by.0;
+        let over = remainder(self.0, by.0);
         if over == 0 {
             return CheckedSize::Of(self);
         }
@@ -102,10 +111,10 @@ impl Size {
 
     // The greatest multiple of `by` that is no more.
     pub fn down(self, by: Size) -> Size
-        requires { ⌜ 0 < by .0 ⌝ }
+        requires { ⌜ powerOfTwo (by .0) ≡ true ⌝ }
         ensures { λ r. ⌜ r .0 ≡ roundDown (self .0) (by .0) ⌝ }
     {
-        Size(self.0 - self.0 % by.0)
+        Size(self.0 - remainder(self.0, by.0))
     }
 
     // Whether an alignment of this many bytes is a power of two.

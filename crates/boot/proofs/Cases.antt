@@ -25,7 +25,7 @@ use Rattle.tables.proofs.Blocks.{lists-ok}
 use Rattle.tables.proofs.Reading.{Spellable, contents-spelled}
 use Rattle.tables.proofs.Setting.{small-current}
 use Rattle.search.specs.Answers.{Answer}
-use Rattle.search.specs.Steps.{fitLow, fitHigh}
+use Rattle.search.specs.Steps.{cutLow, cutHigh, fitLow, fitHigh}
 use Rattle.boot.specs.Calls.{Call, leaves}
 use Rattle.boot.specs.Cases.{Case, Holds, AllHold, fresh, cases}
 use Rattle.boot.proofs.Playing.{sound, Played, told, play, plays, playable, allPlayable, sound-spellable, call-played, answers-played}
@@ -176,7 +176,7 @@ all-right (c ∷ cs) e =
     (right-holds c (p .0), all-right cs (p .1))
 
 cases-right : allRight cases ≡ true
-unfolding allRight right sameSlips sameRegions sameRegion cases allPlayable plays ended play playable sameBytes sizes powerBelow fits rises legal legalTag change roundEach bytes push join stretch table.walk table.update fitLow fitHigh walks.gaps walks.walk walks.gapsDown walks.walkDown walks.onto walks.falling
+unfolding allRight right sameSlips sameRegions sameRegion cases allPlayable plays ended play playable sameBytes sizes powerBelow fits rises legal legalTag change roundEach bytes push join stretch table.walk table.update cutLow cutHigh fitLow fitHigh walks.gaps walks.walk walks.onto walks.falling
 cases-right = refl
 
 -- the marked cases

@@ -14,11 +14,12 @@ use Rattle.regions.specs.Meaning.{at}
 use Rattle.regions.specs.Changes.{change, cut}
 use Rattle.regions.specs.Free.{usable, free as freeMemory, freeRuns}
 use Rattle.regions.proofs.RoundTrip.{inside-yes}
+use Rattle.regions.proofs.Lying.{OneTag, in-one-run}
 use Rattle.tables.specs.Block.{current, contents, good}
 use Rattle.tables.specs.Commands.{free}
 use Rattle.search.specs.declared.Query.{Query}
-use Rattle.search.specs.Search.{eligible, runsOf}
-use Rattle.search.proofs.Eligible.{OneTag, in-one-run, lies-eligible}
+use Rattle.search.specs.Search.{asks, eligible, runsOf}
+use Rattle.search.proofs.Eligible.{lies-eligible}
 use Rattle.boot.specs.Calls.{frees, Command, outcomeBy}
 use Rattle.boot.proofs.Steps.{Made, Refused, Done, made, step}
 
@@ -36,14 +37,14 @@ module _ (b : List ℕ) (g : good current b ≡ true) (base size : ℕ) (d : fre
 
   -- an aligned address in the window, the size addresses from which were freed, and are memory of one tag, not no-map, of the node asked for
   pub freed-eligible : (q : Query) (a : ℕ) → 0 < q .size .0 → a % q .align .0 ≡ 0 → q .start .0 ≤ a → a + q .size .0 ≤ q .end .0
-      → base ≤ a → a + q .size .0 ≤ cut base size → OneTag (λ c. usable (at (contents current b .memory) c)) (q .node) (q .size .0) a
+      → base ≤ a → a + q .size .0 ≤ cut base size → OneTag (λ c. usable (at (contents current b .memory) c)) (asks q) (q .size .0) a
       → eligible q (runsOf (contents current (free current base size b .block))) a ≡ true
   unfolding freeRuns freeMemory made change
   freed-eligible q a pos al lo hi from to o =
       let s = contents current (free current base size b .block) in
-      let p : OneTag (freeMemory (at (s .memory)) (at (s .taken))) (q .node) (q .size .0) a =
+      let p : OneTag (freeMemory (at (s .memory)) (at (s .taken))) (asks q) (q .size .0) a =
       record { tag = o .tag; right = o .right; all = all } in
-      let r = in-one-run (freeMemory (at (s .memory)) (at (s .taken))) (q .node) (q .size .0) a pos (omega arith) p in
+      let r = in-one-run (freeMemory (at (s .memory)) (at (s .taken))) (asks q) (q .size .0) a pos (omega arith) p in
       lies-eligible q (runsOf s) a (record { aligned = al; start = lo; end = hi; run = r })
     where
       all : (c : ℕ) → a ≤ c → c < a + q .size .0

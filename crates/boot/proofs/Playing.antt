@@ -36,11 +36,11 @@ use Rattle.tables.proofs.Storing.{capacity-small}
 use Rattle.search.specs.declared.Query.{Query}
 use Rattle.search.specs.Search.{window, found}
 use Rattle.search.specs.Answers.{Answer, answer, slipOf, nodeKnown, asking, find, findAnswer, allocate, allocateAnswer, reserved}
-use Rattle.search.specs.Steps.{Hit, hitOf, fitLow, fitHigh, lowestIn, highestIn}
+use Rattle.regions.specs.declared.Run.{Run}
+use Rattle.search.specs.Steps.{Hit, hitOf, lowestIn, highestIn}
 use Rattle.search.proofs.Eligible.{eligible-below, found-eligible}
-use Rattle.search.proofs.Twins.{walk, walkDown, falling}
-use Rattle.search.proofs.WalkLow.{walk-lowest}
-use Rattle.search.proofs.WalkHigh.{walk-highest}
+use Rattle.search.proofs.Twins.{Up, Down, walk, falling}
+use Rattle.search.proofs.Walks.{walk-lowest, walk-highest}
 use Rattle.boot.specs.Calls.{Command, Call, toFresh, toSet, toCommand, toTrim, toFind, toNextFree, toAllocate, toIntake, answerOf, answers}
 use Rattle.boot.specs.Lists.{table}
 use Rattle.boot.proofs.Steps.{changeOf, legalVerb, outcome-is}
@@ -84,8 +84,8 @@ hitAt (some h) = some (h .at)
 abbrev seek : Contents → Query → Option ℕ
 seek s q =
     let w = window (s .limit) q in
-    cond (eqb (s .direction) 1) (hitAt (walk (w .node) (fitLow w) (s .memory) (s .taken)))
-    (walkDown (w .node) (fitHigh w) (falling (s .memory)) (falling (s .taken)))
+    cond (eqb (s .direction) 1) (hitAt (walk Up w (s .memory) (s .taken)))
+    (hitAt (walk Down w (falling (s .memory)) (falling (s .taken))))
 
 abbrev finds : Contents → Query → Option ℕ → Played
 finds s q none = played 5 s (replicate 16 0)
@@ -150,7 +150,7 @@ module _ (s : Contents) (sp : Spellable current s) where
 
   -- ---- what find finds, by the walks
 
-  hit-at : (e : ℕ → ℕ) (o : Option ℕ) → hitAt (hitOf e o) ≡ o
+  hit-at : (e : ℕ → Run) (o : Option ℕ) → hitAt (hitOf e o) ≡ o
   hit-at e none = refl
   hit-at e (some a) = refl
 
@@ -158,7 +158,7 @@ module _ (s : Contents) (sp : Spellable current s) where
   unfolding found lowestIn highestIn
   seek-is q i j =
       let w : Query = window (s .limit) q in
-      rw (walk-lowest w (s .memory) (s .taken) i j (canonical Memory) (canonical Taken), walk-highest w (s .memory) (s .taken) i j (canonical Memory) (canonical Taken), hit-at)
+      rw (walk-lowest w (s .memory) (s .taken) i j (canonical Memory) (canonical Taken), walk-highest w (s .memory) (s .taken) i j (canonical Memory) (canonical Taken), hit-at, hit-at)
 
   -- ---- the calls
 

@@ -3,19 +3,23 @@ use Prim.Native.Nat.{ℕ, _≤_, _<_}
 use mathlib.Core.Path.{_≡_, refl, sym, ap, _∙_}
 use mathlib.Core.Bool.{Bool, true, false, cond}
 use mathlib.Core.List.{List, _∷_}
+use mathlib.Core.Logic.{_⊎_, inl, inr}
 use native.Mathlib.Omega.{arith}
+use Rattle.address.proofs.Tests.{le-or-lt}
+use Rattle.regions.specs.declared.Tag.{Tag}
 use Rattle.regions.specs.declared.Region.{Region}
 use Rattle.regions.specs.declared.State.{State}
 use Rattle.regions.specs.declared.State.the-variants.{Absent, Present}
-use Rattle.regions.specs.Meaning.{end, inside, at, shortest}
+use Rattle.regions.specs.Meaning.{end, inside, at, shortest, top}
 use Rattle.regions.specs.Changes.{after, has}
-use Rattle.regions.specs.Free.{usable, untaken, free}
+use Rattle.regions.specs.Free.{usable, untaken, free, freeRuns}
 use Rattle.regions.proofs.Twins.{update, usables, clears, frees}
 use Rattle.regions.proofs.Rises.{Rises, done, next, Canonical}
 use Rattle.regions.proofs.Count.{agree}
-use Rattle.regions.proofs.RoundTrip.{round-trip, rises-end, rises-below, inside-hi}
+use Rattle.regions.proofs.RoundTrip.{round-trip, rises-end, rises-below, rises-above, at-shortest, at-shortest-above, inside-hi}
 use Rattle.regions.proofs.Trim.{lower}
 use Rattle.regions.proofs.Update.{update-canonical, update-at}
+use Rattle.regions.proofs.Lying.{passes}
 
 usables-rises : {c n : ℕ} {v : State} {xs : List Region} → Rises c v n xs → Rises c v n (usables xs)
 unfolding usables
@@ -74,3 +78,40 @@ frees-shortest n ms ts p q =
     sym (round-trip n (clears ts (usables ms)) (clears-canonical (usables ms) q (usables-rises p)))
     ∙ agree (at (clears ts (usables ms))) (free (at ms) (at ts)) n
     (λ a h. clears-at (usables ms) a q (usables-rises p) h ∙ ap (λ (v : State). untaken v (at ts a)) (usables-at a p))
+
+-- ---- at one address
+
+pub pass-untaken : (p : Tag → Bool) (v u : State) → passes p v ≡ false → passes p (untaken v u) ≡ false
+pass-untaken p v Absent e = e
+pass-untaken p v (Present t) e = refl
+
+untaken-is : (v u : State) (t : Tag) → untaken v u ≡ Present t → v ≡ Present t
+untaken-is v Absent t e = e
+untaken-is v (Present s) t e = let z : _≡_ {A = ℕ} 0 1 = cc in absurd (omega arith)
+
+usable-is : (v : State) (t : Tag) → usable v ≡ Present t → v ≡ Present t
+usable-is Absent t e = e
+usable-is (Present u) t e = go (has 4 (u .flags)) e
+  where
+    go : (b : Bool) → cond b Absent (Present u) ≡ Present t → Present u ≡ Present t
+    go true e = let z : _≡_ {A = ℕ} 0 1 = cc in absurd (omega arith)
+    go false e = e
+
+-- the runs say what is free, at every address
+pub runs-at : (ms ts : List Region) → Canonical top ms → (a : ℕ) → at (freeRuns ms ts) a ≡ free (at ms) (at ts) a
+unfolding free freeRuns
+runs-at ms ts w a = go (le-or-lt top a)
+  where
+    nothing : (v : State) → untaken Absent v ≡ Absent
+    nothing Absent = refl
+    nothing (Present t) = refl
+
+    go : (top ≤ a) ⊎ (a < top) → at (freeRuns ms ts) a ≡ free (at ms) (at ts) a
+    go (inl h) =
+        at-shortest-above (free (at ms) (at ts)) top a h ∙ sym (ap (λ (x : State). untaken (usable x) (at ts a)) (rises-above a w h) ∙ nothing (at ts a))
+    go (inr h) = at-shortest (free (at ms) (at ts)) top a h
+
+-- and what is free is memory
+pub free-memory : (ms ts : List Region) → Canonical top ms → (a : ℕ) (t : Tag) → at (freeRuns ms ts) a ≡ Present t → at ms a ≡ Present t
+unfolding free
+free-memory ms ts w a t e = usable-is (at ms a) t (untaken-is (usable (at ms a)) (at ts a) t (sym (runs-at ms ts w a) ∙ e))

@@ -3,5 +3,6 @@ pub mod Lists
 pub mod Changes
 pub mod Trim
 pub mod Free
+pub mod Runs
 pub mod Bytes
 pub mod Steps

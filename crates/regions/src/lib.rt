@@ -25,6 +25,12 @@ pub struct Region {
     pub tag: Tag,
 }
 
+// A run of addresses, from `low` up to, not including, `end`.
+pub struct Run {
+    pub low: Address,
+    pub end: Address,
+}
+
 // How an address stands in a table.
 pub enum State {
     Absent,

@@ -1,5 +1,5 @@
 -- The answers of allocate, one by one. Assumes nothing.
-use Prim.Native.Nat.{ℕ, _+_, _≤_}
+use Prim.Native.Nat.{ℕ, _+_}
 use mathlib.Core.Path.{_≡_, refl, sym, ap, ap₂, _∙_}
 use mathlib.Core.Bool.{Bool, true, false, cond}
 use mathlib.Core.List.{List}
@@ -15,18 +15,17 @@ use Rattle.regions.specs.declared.Kind.the-variants.{Taken}
 use Rattle.regions.specs.declared.Change.the-variants.{Fill}
 use Rattle.tables.specs.declared.block.Layout.{Layout}
 use Rattle.tables.specs.Block.{current, capacity, withList, blockBytes, contents}
-use Rattle.tables.specs.Steps.{Vacant}
-use Rattle.regions.specs.Meaning.{top}
 use Rattle.tables.specs.Commands.{Outcome, outcome, store, tag, changeRange}
+use Rattle.regions.specs.Runs.{runAt}
 use Rattle.search.specs.declared.Query.{Query}
 use Rattle.search.specs.declared.find.Asked.{Asked}
 use Rattle.search.specs.declared.find.Asked.the-variants.{Refused, Fine}
-use Rattle.search.specs.declared.fit.Found.{Found}
-use Rattle.search.specs.declared.fit.Found.the-variants.{At, Nothing}
-use Rattle.search.specs.Search.{found, window}
+use Rattle.regions.specs.declared.Run.{Run}
+use Rattle.search.specs.declared.fit.Place.{Place}
+use Rattle.search.specs.declared.fit.Place.the-variants.{Here, Nowhere}
+use Rattle.search.specs.Search.{runsOf, found}
 use Rattle.search.specs.Answers.{Answer, answer, refuse, slipOf, reserved, allocate, allocateAnswer}
-use Rattle.search.specs.Steps.{foundOf, Ready, checked}
-use Rattle.search.proofs.Eligible.{found-eligible, eligible-below, eligible-vacant}
+use Rattle.search.specs.Steps.{hitOf, placeOf, foundHit, checked}
 use Rattle.search.proofs.Answering.{refused, fine}
 
 -- a list that does not fit leaves the block
@@ -37,20 +36,6 @@ store-leaves L k xs b e n q d = go (leb (length xs) (capacity L k)) q
     go : (t : Bool) → outcome n e ≡ cond t (outcome 0 (blockBytes L (withList (contents L b) k xs))) (outcome 6 b) → e ≡ b
     go true p = absurd (d (ap (λ (o : Outcome). o .number) p))
     go false p = ap (λ (o : Outcome). o .block) p
-
--- what is found in a good block is free: no address of it is taken, and it ends at the top or below
-pub found-vacant : (b : List ℕ) (q : Query) → Ready b q → (f : Found) → f ≡ foundOf (found (contents current b) q) → (a : Address) → f ≡ At a
-    → (a .0 + q .size .0 ≤ top) × Vacant (a .0) (a .0 + q .size .0) (contents current b .taken)
-found-vacant b q p f e a g = go (found (contents current b) q) refl (sym g ∙ e)
-  where
-    go : (o : Option ℕ) → found (contents current b) q ≡ o → At a ≡ foundOf o → (a .0 + q .size .0 ≤ top) × Vacant (a .0) (a .0 + q .size .0) (contents current b .taken)
-    go none h i = let z : _≡_ {A = ℕ} 0 1 = cc in absurd (omega arith)
-    go (some x) h i =
-        let s = contents current b in
-        let y : a ≡ record { 0 = x } = cc in
-        let w = window (s .limit) q in
-        let l = found-eligible s q x h in
-        rw y (eligible-below w s x (p .size) l, eligible-vacant w s x (p .size) l)
 
 -- ---- what was found is reserved
 
@@ -82,21 +67,21 @@ module _ (b s : List ℕ) (q : Query) where
     unfolding allocate
     allocate-refused z e n f = ap (answer n b) e ∙ refused b s q l c is inner n f
 
-    module _ (f : c ≡ Fine) (r : Found) (o : r ≡ foundOf (found (contents current b) q)) where
-      pub allocate-none : (z : List ℕ) → z ≡ replicate 16 0 → r ≡ Nothing → answer 5 b z ≡ allocate current q b s
-      unfolding allocate
+    module _ (f : c ≡ Fine) (r : Place) (o : r ≡ placeOf (foundHit (contents current b) q)) where
+      pub allocate-none : (z : List ℕ) → z ≡ replicate 16 0 → r ≡ Nowhere → answer 5 b z ≡ allocate current q b s
+      unfolding allocate foundHit
       allocate-none z e g = ap (answer 5 b) e ∙ go (found (contents current b) q) (sym g ∙ o) ∙ fine b s q l c is inner f
         where
-          go : (u : Option ℕ) → Nothing ≡ foundOf u → refuse 5 b ≡ allocateAnswer current b (q .size .0) u
+          go : (u : Option ℕ) → Nowhere ≡ placeOf (hitOf (runAt (runsOf (contents current b))) u) → refuse 5 b ≡ allocateAnswer current b (q .size .0) u
           go none h = refl
           go (some x) h = let y : _≡_ {A = ℕ} 0 1 = cc in absurd (omega arith)
 
-      pub allocate-some : (a : Address) → r ≡ At a → (t : Answer)
+      pub allocate-some : (a : Address) (v : Run) → r ≡ Here a v → (t : Answer)
           → t ≡ reserved b (a .0) (q .size .0) (changeRange current Taken (Fill (tag 0 0)) (a .0) (q .size .0) b) → t ≡ allocate current q b s
-      unfolding allocate
-      allocate-some a g t w = w ∙ go (found (contents current b) q) (sym g ∙ o) ∙ fine b s q l c is inner f
+      unfolding allocate foundHit
+      allocate-some a v g t w = w ∙ go (found (contents current b) q) (sym g ∙ o) ∙ fine b s q l c is inner f
         where
-          go : (u : Option ℕ) → At a ≡ foundOf u
+          go : (u : Option ℕ) → Here a v ≡ placeOf (hitOf (runAt (runsOf (contents current b))) u)
               → reserved b (a .0) (q .size .0) (changeRange current Taken (Fill (tag 0 0)) (a .0) (q .size .0) b) ≡ allocateAnswer current b (q .size .0) u
           go none h = let y : _≡_ {A = ℕ} 0 1 = cc in absurd (omega arith)
           go (some x) h = let y : a ≡ record { 0 = x } = cc in rw y

@@ -1,35 +1,35 @@
 -- The checks of a search, and the answers of find and next free, one by one. Assumes nothing.
-use Prim.Native.Nat.{ℕ, _+_, _-_, _^_, _≤_, _<_}
+use Prim.Native.Nat.{ℕ, _+_, _-_, _≤_, _<_}
 use mathlib.Core.Path.{_≡_, refl, sym, ap, _∙_}
 use mathlib.Core.Bool.{Bool, true, false, cond, not}
 use mathlib.Core.List.{List, [], _++_, append-nil}
 use mathlib.Core.Option.{Option, none, some}
 use native.Mathlib.Omega.{arith}
-use native.Mathlib.Nat.{pow-le-pow-right}
 use lib.Dec.{eqb, lit<}
 use lib.ListN.{length, take, drop, replicate, length-append}
 use lib.Seq.{sets, sets-eq, drop-length}
 use borrow.Author.Tests.{eq-eqb, ne-eqb, le-leb, lt-leb, eqb-false, not-true, not-false}
 use Rattle.address.specs.Numbers.{powerOfTwo}
 use Rattle.address.specs.declared.Address.{Address}
-use Rattle.address.proofs.Powers.{power-is, power-of}
-use Rattle.regions.specs.Meaning.{top-is}
+use Rattle.address.proofs.Powers.{power-of}
+use Rattle.regions.specs.Meaning.{top, top-is}
 use Rattle.regions.specs.Bytes.{bytes}
 use Rattle.regions.proofs.Numbers.{bytes-length, sets-append}
 use Rattle.tables.specs.declared.block.Layout.{Layout}
 use Rattle.tables.specs.Block.{current, contents, good}
 use Rattle.tables.proofs.Blocks.{bad-here, good-here}
+use Rattle.regions.specs.Runs.{runAt}
 use Rattle.search.specs.declared.Query.{Query}
 use Rattle.search.specs.declared.find.Asked.{Asked}
 use Rattle.search.specs.declared.find.Asked.the-variants.{Refused, Fine}
-use Rattle.search.specs.declared.fit.Found.{Found}
-use Rattle.search.specs.declared.fit.Found.the-variants.{At, Nothing}
+use Rattle.regions.specs.declared.Run.{Run}
 use Rattle.search.specs.declared.fit.Place.{Place}
 use Rattle.search.specs.declared.fit.Place.the-variants.{Here, Nowhere}
-use Rattle.search.specs.Search.{window, runsOf, runEnd, found, lowestFree}
+use Rattle.search.specs.Search.{window, runsOf, found, lowestFree}
 use Rattle.search.specs.Answers.{Answer, answer, refuse, slipOf, nodeKnown, asking, find, findAnswer, nextFree, nextFreeAnswer}
-use Rattle.search.specs.Steps.{foundOf, hitOf, placeOf, Ready, nextQuery, nextHit, checked}
-use Rattle.search.proofs.Eligible.{eligible-below, found-eligible}
+use Rattle.search.specs.Steps.{hitOf, placeOf, Ready, foundHit, nextQuery, nextHit, checked}
+use Rattle.tables.specs.Steps.{Vacant}
+use Rattle.search.proofs.Eligible.{eligible-below, eligible-vacant, found-eligible}
 
 -- ---- the checks
 
@@ -80,9 +80,7 @@ unfolding checked
 fine-ready b q c e f =
     let t = fine-is (good current b) (nodeKnown (q .node)) (powerOfTwo (q .align .0)) (eqb (q .size .0) 0) (sym f ∙ e) in
     let z = eqb-false (q .size .0) 0 (t .1) in
-    let w = power-is 64 (q .align .0) (t .0 .1) in
-    let o : 1 ≤ 2 ^ w .0 = pow-le-pow-right {n = 2} (lit< tt) {i = 0} {j = w .0} (omega arith) in
-    record { good = t .0 .0; size = omega arith; align = omega (arith, o, w .2) }
+    record { good = t .0 .0; size = omega arith; align = t .0 .1 }
 
 -- ---- the slip
 
@@ -125,17 +123,24 @@ module _ (b s : List ℕ) (q : Query) (l : length s ≡ 16) (c : Asked) (is : c 
 
 -- ---- find
 
--- what is found ends at 2^64 - 1 or below
-pub found-ends : (b : List ℕ) (q : Query) → Ready b q → (f : Found) → f ≡ foundOf (found (contents current b) q) → (a : Address) → f ≡ At a
-    → a .0 + q .size .0 < 18446744073709551616
-found-ends b q p f e a g = go (found (contents current b) q) refl (sym g ∙ e)
+-- what is found in a good block ends at the top or below, and no address of it is taken
+pub found-vacant : (b : List ℕ) (q : Query) → Ready b q → (f : Place) → f ≡ placeOf (foundHit (contents current b) q) → (a : Address) (u : Run) → f ≡ Here a u
+    → (a .0 + q .size .0 ≤ top) × Vacant (a .0) (a .0 + q .size .0) (contents current b .taken)
+unfolding foundHit
+found-vacant b q p f e a u g = go (found (contents current b) q) refl (sym g ∙ e)
   where
-    go : (o : Option ℕ) → found (contents current b) q ≡ o → At a ≡ foundOf o → a .0 + q .size .0 < 18446744073709551616
+    go : (o : Option ℕ) → found (contents current b) q ≡ o → Here a u ≡ placeOf (hitOf (runAt (runsOf (contents current b))) o)
+        → (a .0 + q .size .0 ≤ top) × Vacant (a .0) (a .0 + q .size .0) (contents current b .taken)
     go none h i = let z : _≡_ {A = ℕ} 0 1 = cc in absurd (omega arith)
     go (some x) h i =
         let s = contents current b in
         let y : a ≡ record { 0 = x } = cc in
-        rw y (omega (arith, eligible-below (window (s .limit) q) s x (p .size) (found-eligible s q x h), top-is))
+        let l = found-eligible s q x h in
+        rw y (eligible-below (window (s .limit) q) s x (p .size) l, eligible-vacant (window (s .limit) q) s x (p .size) l)
+
+pub found-ends : (b : List ℕ) (q : Query) → Ready b q → (f : Place) → f ≡ placeOf (foundHit (contents current b) q) → (a : Address) (u : Run) → f ≡ Here a u
+    → a .0 + q .size .0 < 18446744073709551616
+found-ends b q p f e a u g = omega (arith, found-vacant b q p f e a u g .0, top-is)
 
 module _ (b s : List ℕ) (q : Query) where
   pub find-no-slip : (length s ≡ 16 → ⊥) → answer 8 b s ≡ find current q b s
@@ -150,20 +155,20 @@ module _ (b s : List ℕ) (q : Query) where
     unfolding find
     find-refused z e n f = ap (answer n b) e ∙ refused b s q l c is inner n f
 
-    module _ (f : c ≡ Fine) (r : Found) (o : r ≡ foundOf (found (contents current b) q)) where
-      pub find-none : (z : List ℕ) → z ≡ replicate 16 0 → r ≡ Nothing → answer 5 b z ≡ find current q b s
-      unfolding find
+    module _ (f : c ≡ Fine) (r : Place) (o : r ≡ placeOf (foundHit (contents current b) q)) where
+      pub find-none : (z : List ℕ) → z ≡ replicate 16 0 → r ≡ Nowhere → answer 5 b z ≡ find current q b s
+      unfolding find foundHit
       find-none z e g = ap (answer 5 b) e ∙ go (found (contents current b) q) (sym g ∙ o) ∙ fine b s q l c is inner f
         where
-          go : (u : Option ℕ) → Nothing ≡ foundOf u → refuse 5 b ≡ findAnswer b (q .size .0) u
+          go : (u : Option ℕ) → Nowhere ≡ placeOf (hitOf (runAt (runsOf (contents current b))) u) → refuse 5 b ≡ findAnswer b (q .size .0) u
           go none h = refl
           go (some x) h = let y : _≡_ {A = ℕ} 0 1 = cc in absurd (omega arith)
 
-      pub find-some : (a : Address) → r ≡ At a → (y : List ℕ) → y ≡ slipOf (a .0) (a .0 + q .size .0) → answer 0 b y ≡ find current q b s
-      unfolding find
-      find-some a g y e = ap (answer 0 b) e ∙ go (found (contents current b) q) (sym g ∙ o) ∙ fine b s q l c is inner f
+      pub find-some : (a : Address) (v : Run) → r ≡ Here a v → (y : List ℕ) → y ≡ slipOf (a .0) (a .0 + q .size .0) → answer 0 b y ≡ find current q b s
+      unfolding find foundHit
+      find-some a v g y e = ap (answer 0 b) e ∙ go (found (contents current b) q) (sym g ∙ o) ∙ fine b s q l c is inner f
         where
-          go : (u : Option ℕ) → At a ≡ foundOf u → answer 0 b (slipOf (a .0) (a .0 + q .size .0)) ≡ findAnswer b (q .size .0) u
+          go : (u : Option ℕ) → Here a v ≡ placeOf (hitOf (runAt (runsOf (contents current b))) u) → answer 0 b (slipOf (a .0) (a .0 + q .size .0)) ≡ findAnswer b (q .size .0) u
           go none h = let y : _≡_ {A = ℕ} 0 1 = cc in absurd (omega arith)
           go (some x) h = let y : a ≡ record { 0 = x } = cc in rw y
 
@@ -197,18 +202,18 @@ module _ (b s : List ℕ) (p : Address) (node : ℕ) where
       unfolding nextHit
       next-none z e g = ap (answer 5 b) e ∙ go (lowestFree (contents current b) (p .0) node) (sym g ∙ o) ∙ fine b s (nextQuery p node) l c checks answered f ∙ next-asks
         where
-          go : (u : Option ℕ) → Nowhere ≡ placeOf (hitOf (runEnd (runsOf (contents current b))) u) → refuse 5 b ≡ nextFreeAnswer b (contents current b) u
+          go : (u : Option ℕ) → Nowhere ≡ placeOf (hitOf (runAt (runsOf (contents current b))) u) → refuse 5 b ≡ nextFreeAnswer b (contents current b) u
           go none h = refl
           go (some x) h = let y : _≡_ {A = ℕ} 0 1 = cc in absurd (omega arith)
 
-      pub next-some : (a end : Address) → r ≡ Here a end → (y : List ℕ) → y ≡ slipOf (a .0) (end .0) → answer 0 b y ≡ nextFree current (p .0) node b s
+      pub next-some : (a : Address) (v : Run) → r ≡ Here a v → (y : List ℕ) → y ≡ slipOf (a .0) (v .end .0) → answer 0 b y ≡ nextFree current (p .0) node b s
       unfolding nextHit
-      next-some a end g y e = ap (answer 0 b) e ∙ go (lowestFree (contents current b) (p .0) node) (sym g ∙ o) ∙ fine b s (nextQuery p node) l c checks answered f ∙ next-asks
+      next-some a v g y e = ap (answer 0 b) e ∙ go (lowestFree (contents current b) (p .0) node) (sym g ∙ o) ∙ fine b s (nextQuery p node) l c checks answered f ∙ next-asks
         where
-          go : (u : Option ℕ) → Here a end ≡ placeOf (hitOf (runEnd (runsOf (contents current b))) u)
-              → answer 0 b (slipOf (a .0) (end .0)) ≡ nextFreeAnswer b (contents current b) u
+          go : (u : Option ℕ) → Here a v ≡ placeOf (hitOf (runAt (runsOf (contents current b))) u)
+              → answer 0 b (slipOf (a .0) (v .end .0)) ≡ nextFreeAnswer b (contents current b) u
           go none h = let y : _≡_ {A = ℕ} 0 1 = cc in absurd (omega arith)
           go (some x) h =
               let y : a ≡ record { 0 = x } = cc in
-              let z : end ≡ record { 0 = runEnd (runsOf (contents current b)) x } = cc in
+              let z : v ≡ runAt (runsOf (contents current b)) x = cc in
               rw (y, z)

@@ -7,6 +7,7 @@ use native.Mathlib.Omega.{arith}
 use native.Mathlib.Numerals.{add-one}
 use lib.ListN.{drop}
 use Rattle.address.proofs.Tests.{le-or-lt}
+use Rattle.regions.specs.declared.Tag.{Tag}
 use Rattle.regions.specs.declared.Region.{Region}
 use Rattle.regions.specs.declared.State.{State}
 use Rattle.regions.specs.declared.State.the-variants.{Absent, Present}
@@ -18,28 +19,67 @@ use Rattle.regions.proofs.Records.{read-regions-snoc}
 use Rattle.regions.proofs.Trim.{rises-apart}
 use Rattle.search.proofs.Twins.{onto, falling}
 
--- none is empty, none reaches past d or the one before it, and at the end of each f has not its tag
-pub data Falls (f : Meaning) : ℕ → List Region → Type 0 where
-  bottom : {d : ℕ} → Falls f d []
-  below : {d : ℕ} {r : Region} {rs : List Region} → end r ≤ d → 0 < r .size .0 → (f (end r) ≡ Present (r .tag) → ⊥) → Falls f (r .base .0) rs → Falls f d (r ∷ rs)
+-- ---- what lies beside a record has not its tag
 
-pub falls-above : {f : Meaning} {d : ℕ} {xs : List Region} (a : ℕ) → Falls f d xs → d ≤ a → at xs a ≡ Absent
+pub record Shut (f : Meaning) (r : Region) : Type 0 where
+  pub stops : f (end r) ≡ Present (r .tag) → ⊥
+  pub begins : (b : ℕ) → suc b ≡ r .base .0 → f b ≡ Present (r .tag) → ⊥
+
+abbrev pub AllShut : Meaning → List Region → Type 0
+AllShut f [] = Unit {0}
+AllShut f (r ∷ rs) = Shut f r × AllShut f rs
+
+rises-shut : (f : Meaning) {c n : ℕ} {v : State} {xs : List Region} → Rises c v n xs → ((a : ℕ) → c ≤ a → f a ≡ at xs a)
+    → ((b : ℕ) (t : Tag) → suc b ≡ c → f b ≡ Present t → v ≡ Present t) → AllShut f xs
+rises-shut f (done l) h g = tt
+rises-shut f {c} (next {r = r} {rs = rs} k w) h g = (
+  record { stops = λ e. rises-apart w (sym (behind (end r) (omega arith)) ∙ e); begins = λ b y. begins b y (le-or-lt c b) },
+  rises-shut f w behind (λ b t y e. sym (at-here r rs b (omega (arith, k .some)) (omega arith)) ∙ sym (h b (omega (arith, k .low, k .some))) ∙ e),
+)
+  where
+    behind : (a : ℕ) → end r ≤ a → f a ≡ at rs a
+    behind a i = h a (omega (arith, k .low)) ∙ at-past r rs a i
+
+    begins : (b : ℕ) → suc b ≡ r .base .0 → (c ≤ b) ⊎ (b < c) → f b ≡ Present (r .tag) → ⊥
+    begins b y (inl i) e =
+        let d = sym (h b i ∙ at-before r rs b (omega arith) ∙ rises-below b w (omega arith)) ∙ e in
+        let z : _≡_ {A = ℕ} 0 1 = cc in omega arith
+    begins b y (inr i) e = k .apart (omega (arith, k .low)) (g b (r .tag) (omega (arith, k .low)) e)
+
+pub canonical-shut : (n : ℕ) (xs : List Region) → Canonical n xs → AllShut (at xs) xs
+canonical-shut n xs w = rises-shut (at xs) w (λ a i. refl) (λ b t y. absurd (omega arith))
+
+onto-shut : (f : Meaning) (acc xs : List Region) → AllShut f acc → AllShut f xs → AllShut f (onto acc xs)
+unfolding onto
+onto-shut f acc [] a w = a
+onto-shut f acc (r ∷ rs) a w = onto-shut f (r ∷ acc) rs (w .0, a) (w .1)
+
+pub falling-shut : (f : Meaning) (xs : List Region) → AllShut f xs → AllShut f (falling xs)
+unfolding falling
+falling-shut f xs w = onto-shut f [] xs tt w
+
+-- ---- falling lists
+
+-- none is empty, and none reaches past d or the one before it
+pub data Falls : ℕ → List Region → Type 0 where
+  bottom : {d : ℕ} → Falls d []
+  below : {d : ℕ} {r : Region} {rs : List Region} → end r ≤ d → 0 < r .size .0 → Falls (r .base .0) rs → Falls d (r ∷ rs)
+
+pub falls-above : {d : ℕ} {xs : List Region} (a : ℕ) → Falls d xs → d ≤ a → at xs a ≡ Absent
 unfolding at
 falls-above a bottom h = refl
-falls-above a (below {r = r} {rs = rs} l s n w) h = at-past r rs a (omega arith) ∙ falls-above a w (omega arith)
+falls-above a (below {r = r} {rs = rs} l s w) h = at-past r rs a (omega arith) ∙ falls-above a w (omega arith)
 
-falls-weaken : {f : Meaning} {c : ℕ} {xs : List Region} (d : ℕ) → Falls f c xs → c ≤ d → Falls f d xs
+falls-weaken : {c : ℕ} {xs : List Region} (d : ℕ) → Falls c xs → c ≤ d → Falls d xs
 falls-weaken d bottom h = bottom
-falls-weaken d (below {r = r} l s n w) h = let m : end r ≤ d = omega arith in below m s n w
+falls-weaken d (below {r = r} l s w) h = let m : end r ≤ d = omega arith in below m s w
 
-onto-falls : (f : Meaning) (acc : List Region) {c n : ℕ} {v : State} {xs : List Region} → Falls f c acc → Rises c v n xs
-    → ((a : ℕ) → c ≤ a → f a ≡ at xs a) → Falls f n (onto acc xs)
+onto-falls : (acc : List Region) {c n : ℕ} {v : State} {xs : List Region} → Falls c acc → Rises c v n xs → Falls n (onto acc xs)
 unfolding onto
-onto-falls f acc {n = n} w (done l) h = falls-weaken n w l
-onto-falls f acc w (next {r = r} {rs = rs} k u) h =
+onto-falls acc {n = n} w (done l) = falls-weaken n w l
+onto-falls acc w (next {r = r} {rs = rs} k u) =
     let l : end r ≤ end r = omega arith in
-    let behind : (a : ℕ) → end r ≤ a → f a ≡ at rs a = λ a i. h a (omega arith) ∙ at-past r rs a i in
-    onto-falls f (r ∷ acc) (below l (k .some) (λ e. rises-apart u (sym (behind (end r) l) ∙ e)) (falls-weaken (r .base .0) w (k .low))) u behind
+    onto-falls (r ∷ acc) (below l (k .some) (falls-weaken (r .base .0) w (k .low))) u
 
 -- below c what is there already speaks, and from c on the list
 onto-low : (acc : List Region) {c n : ℕ} {v : State} {xs : List Region} (a : ℕ) → Rises c v n xs → a < c → at (onto acc xs) a ≡ at acc a
@@ -61,9 +101,9 @@ onto-high acc a e (next {r = r} {rs = rs} k u) h =
 
 -- ---- a shortest list, turned round
 
-pub falling-falls : (n : ℕ) (xs : List Region) → Canonical n xs → Falls (at xs) n (falling xs)
+pub falling-falls : (n : ℕ) (xs : List Region) → Canonical n xs → Falls n (falling xs)
 unfolding falling
-falling-falls n xs w = onto-falls (at xs) [] bottom w (λ a i. refl)
+falling-falls n xs w = onto-falls [] bottom w
 
 pub falling-at : (n : ℕ) (xs : List Region) (a : ℕ) → Canonical n xs → at (falling xs) a ≡ at xs a
 unfolding falling at

@@ -1,9 +1,8 @@
 -- Whole blocks: a good block's two parts can be searched, and what is found in them is what the definitions say of the block. Assumes nothing.
 use Prim.Native.Nat.{ℕ, _+_, _*_, _-_, _≤_, _<_, min, max}
-use mathlib.Core.Path.{_≡_, refl, sym, ap, _∙_}
+use mathlib.Core.Path.{_≡_, refl}
 use mathlib.Core.Bool.{Bool, true, false, _&&_}
 use mathlib.Core.List.{List}
-use mathlib.Core.Option.{Option, none, some}
 use native.Mathlib.Omega.{arith}
 use native.Mathlib.Nat.{mod-one}
 use lib.Dec.{leb}
@@ -11,6 +10,7 @@ use lib.ListN.{length, take, drop, length-drop}
 use lib.Seq.{length-take-le}
 use borrow.Author.Tests.{eq-eqb, ne-eqb, le-leb}
 use Rattle.address.specs.declared.Address.{Address}
+use Rattle.address.specs.Numbers.{powerBelow}
 use Rattle.regions.specs.declared.Kind.the-variants.{Memory, Taken}
 use Rattle.regions.specs.declared.Region.{Region}
 use Rattle.regions.specs.Meaning.{top, top-is}
@@ -20,14 +20,12 @@ use Rattle.tables.specs.declared.block.Layout.{Layout}
 use Rattle.tables.specs.declared.block.Header.{Header}
 use Rattle.tables.specs.Block.{current, capacity, offset, Contents, readHeader, part, contents, good}
 use Rattle.tables.proofs.Blocks.{room, lists-ok, good-contents, good-length}
+use Rattle.regions.specs.Runs.{inOne}
 use Rattle.search.specs.declared.Query.{Query}
 use Rattle.search.specs.declared.block.Parts.{Parts}
-use Rattle.search.specs.declared.fit.Found.{Found}
-use Rattle.search.specs.declared.fit.Found.the-variants.{At, Nothing}
 use Rattle.search.specs.declared.fit.Place.{Place}
-use Rattle.search.specs.declared.fit.Place.the-variants.{Here, Nowhere}
-use Rattle.search.specs.Search.{lowest, eligible, inOne, boundedEnd, window, windowEnd, runsOf, runEnd, found, freeFrom, lowestFree}
-use Rattle.search.specs.Steps.{foundOf, hitOf, placeOf, Searchable, lowestIn, highestIn, Ready, partsOf, lowestOf, highestOf, nextQuery, nextHit}
+use Rattle.search.specs.Search.{onNode, eligible, boundedEnd, window, windowEnd, runsOf, found, freeFrom, lowestFree}
+use Rattle.search.specs.Steps.{placeOf, Searchable, lowestIn, highestIn, Ready, partsOf, lowestOf, highestOf, foundHit, nextQuery, nextHit}
 use Rattle.search.proofs.Stretches.{lowest-agree}
 
 -- ---- the window
@@ -106,9 +104,9 @@ module _ (b : List ℕ) (q : Query) (t : Parts) (is : t ≡ partsOf b) where
   unfolding contents capacity offset
   lowest-is f e = rw is at e
 
-  pub highest-is : (f : Found)
-      → f ≡ foundOf (highestIn (readRegions (t .memory) (take (t .middle - 80) (drop 80 b))) (readRegions (t .taken) (take (t .end - t .middle) (drop (t .middle) b))) q)
-      → f ≡ foundOf (highestOf (contents current b) q)
+  pub highest-is : (f : Place)
+      → f ≡ placeOf (highestIn (readRegions (t .memory) (take (t .middle - 80) (drop 80 b))) (readRegions (t .taken) (take (t .end - t .middle) (drop (t .middle) b))) q)
+      → f ≡ placeOf (highestOf (contents current b) q)
   unfolding contents capacity offset
   highest-is f e = rw is at e
 
@@ -122,36 +120,19 @@ module _ (b : List ℕ) (q : Query) (h : Header) (r : h ≡ readHeader b) (w : Q
   unfolding contents
   limit-is = rw r at e
 
-  module _ (d : h .direction ≡ 1) where
-    rising : found (contents current b) q ≡ lowest (eligible w (runsOf (contents current b))) top
-    unfolding found contents
-    rising = let k : readHeader b .direction ≡ 1 = rw r at d in rw (eq-eqb (readHeader b .direction) 1 k, limit-is)
+  pub find-low : h .direction ≡ 1 → (f : Place) → f ≡ placeOf (lowestOf (contents current b) w) → f ≡ placeOf (foundHit (contents current b) q)
+  unfolding found foundHit contents lowestIn
+  find-low d f i = let k : readHeader b .direction ≡ 1 = rw r at d in rw (eq-eqb (readHeader b .direction) 1 k, ← limit-is) i
 
-    module _ (f : Place) (i : f ≡ placeOf (lowestOf (contents current b) w)) where
-      pub find-low-none : f ≡ Nowhere → Nothing ≡ foundOf (found (contents current b) q)
-      unfolding lowestIn
-      find-low-none g = rw rising (go (lowest (eligible w (runsOf (contents current b))) top) (sym g ∙ i))
-        where
-          go : (o : Option ℕ) → Nowhere ≡ placeOf (hitOf (runEnd (runsOf (contents current b))) o) → Nothing ≡ foundOf o
-          go none k = refl
-          go (some a) k = let z : _≡_ {A = ℕ} 0 1 = cc in absurd (omega arith)
-
-      pub find-low : (a u : Address) → f ≡ Here a u → At a ≡ foundOf (found (contents current b) q)
-      unfolding lowestIn
-      find-low a u g = rw rising (go (lowest (eligible w (runsOf (contents current b))) top) (sym g ∙ i))
-        where
-          go : (o : Option ℕ) → Here a u ≡ placeOf (hitOf (runEnd (runsOf (contents current b))) o) → At a ≡ foundOf o
-          go none k = let z : _≡_ {A = ℕ} 0 1 = cc in absurd (omega arith)
-          go (some x) k = let y : a ≡ record { 0 = x } = cc in ap At y
-
-  pub find-high : (h .direction ≡ 1 → ⊥) → (f : Found) → f ≡ foundOf (highestOf (contents current b) w) → f ≡ foundOf (found (contents current b) q)
-  unfolding found contents highestIn
+  pub find-high : (h .direction ≡ 1 → ⊥) → (f : Place) → f ≡ placeOf (highestOf (contents current b) w) → f ≡ placeOf (foundHit (contents current b) q)
+  unfolding found foundHit contents highestIn
   find-high d f i = let k : readHeader b .direction ≡ 1 → ⊥ = rw r at d in rw (ne-eqb (readHeader b .direction) 1 k, ← limit-is) i
 
 -- ---- next free
 
 pub next-ready : (b : List ℕ) (p : Address) (node : ℕ) (q : Query) → q ≡ nextQuery p node → good current b ≡ true → Ready b q
-next-ready b p node q e g = rw e (record { good = g; size = omega arith; align = omega arith })
+unfolding powerBelow
+next-ready b p node q e g = rw e (record { good = g; size = omega arith; align = refl })
 
 -- an address is eligible for it exactly when it is free, from p on
 next-eligible : (p : Address) (node : ℕ) (runs : List Region) (a : ℕ) → a < top → eligible (nextQuery p node) runs a ≡ freeFrom (p .0) node runs a
@@ -160,7 +141,7 @@ next-eligible p node runs a h =
     let f : a + 1 ≤ 18446744073709551615 = omega (arith, top-is) in
     rw (mod-one a, le-leb (a + 1) 18446744073709551615 f) (go (leb (p .0) a))
   where
-    go : (t : Bool) → (t && true) && inOne node 1 a runs ≡ t && inOne node 1 a runs
+    go : (t : Bool) → (t && true) && inOne (onNode node) 1 a runs ≡ t && inOne (onNode node) 1 a runs
     go true = refl
     go false = refl
 

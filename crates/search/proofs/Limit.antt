@@ -16,8 +16,9 @@ use Rattle.regions.specs.declared.Change.the-variants.{Fill}
 use Rattle.tables.specs.declared.block.Layout.{Layout}
 use Rattle.tables.specs.Block.{Contents, contents, good}
 use Rattle.tables.specs.Commands.{Outcome, tag, changeRange}
+use Rattle.regions.specs.Runs.{inOne}
 use Rattle.search.specs.declared.Query.{Query}
-use Rattle.search.specs.Search.{inOne, eligible, windowStart, window, runsOf, found}
+use Rattle.search.specs.Search.{asks, eligible, windowStart, window, runsOf, found}
 use Rattle.search.specs.Answers.{Answer, answer, refuse, slipOf, nodeKnown, asking, find, findAnswer, allocate, allocateAnswer}
 use Rattle.search.proofs.Eligible.{Lies, eligible-lies, lies-eligible, found-eligible}
 
@@ -27,7 +28,7 @@ pub record Offered (limit : ℕ) (q : Query) (runs : List Region) (a : ℕ) : Ty
   pub start : max (q .start .0) 4096 ≤ a
   pub by-limit : a + q .size .0 ≤ limit
   pub by-end : (q .end .0 ≡ 0) ⊎ (a + q .size .0 ≤ q .end .0)
-  pub run : inOne (q .node) (q .size .0) a runs ≡ true
+  pub run : inOne (asks q) (q .size .0) a runs ≡ true
 
 module _ (limit : ℕ) (q : Query) (runs : List Region) (a : ℕ) where
   -- what is eligible in the window is offered: the limit binds

@@ -7,37 +7,32 @@ use mathlib.Core.Logic.{_⊎_, inl, inr}
 use native.Mathlib.Omega.{arith}
 use Rattle.address.proofs.Tests.{clash, le-or-lt}
 use Rattle.search.specs.Search.{orElse, lowest, highest}
+use Rattle.regions.specs.declared.Run.{Run}
 use Rattle.search.specs.Steps.{Hit, hitOf}
+use Rattle.search.proofs.Twins.{Way, Up, Down, extreme}
 use Rattle.search.proofs.Extremes.{Gives, lowest-gives, highest-gives}
 
 -- p holds at no address from c to below d
 abbrev pub Bare : (ℕ → Bool) → ℕ → ℕ → Type 0
 Bare p c d = (a : ℕ) → c ≤ a → a < d → p a ≡ false
 
--- x is the lowest address from c to below d at which p holds, with the end that w gives it
-pub record First (w : ℕ → ℕ) (p : ℕ → Bool) (c d : ℕ) (x : Hit) : Type 0 where
+-- p holds at none before x, in the order of the walk
+abbrev pub Before : Way → (ℕ → Bool) → ℕ → ℕ → ℕ → Type 0
+Before Up p c d x = Bare p c x
+Before Down p c d x = Bare p (suc x) d
+
+-- x is the first address from c to below d at which p holds, with the run that w gives it
+pub record First (v : Way) (w : ℕ → Run) (p : ℕ → Bool) (c d : ℕ) (x : Hit) : Type 0 where
   pub yes : p (x .at) ≡ true
   pub low : c ≤ x .at
   pub high : x .at < d
-  pub rest : Bare p c (x .at)
-  pub ends : x .end ≡ w (x .at)
+  pub rest : Before v p c d (x .at)
+  pub run : x .run ≡ w (x .at)
 
--- x is the highest
-pub record Last (p : ℕ → Bool) (c d x : ℕ) : Type 0 where
-  pub yes : p x ≡ true
-  pub low : c ≤ x
-  pub high : x < d
-  pub rest : Bare p (suc x) d
-
--- o is what a search from c to below d finds, rising
-abbrev pub Rising : (ℕ → ℕ) → (ℕ → Bool) → ℕ → ℕ → Option Hit → Type 0
-Rising w p c d none = Bare p c d
-Rising w p c d (some x) = First w p c d x
-
--- and falling
-abbrev pub Falling : (ℕ → Bool) → ℕ → ℕ → Option ℕ → Type 0
-Falling p c d none = Bare p c d
-Falling p c d (some x) = Last p c d x
+-- o is what a walk from c to below d finds
+abbrev pub Finds : Way → (ℕ → Run) → (ℕ → Bool) → ℕ → ℕ → Option Hit → Type 0
+Finds v w p c d none = Bare p c d
+Finds v w p c d (some x) = First v w p c d x
 
 bare-join : (p : ℕ → Bool) (c d e : ℕ) → Bare p c d → Bare p d e → Bare p c e
 bare-join p c d e f g a l m = go (le-or-lt d a)
@@ -46,19 +41,19 @@ bare-join p c d e f g a l m = go (le-or-lt d a)
     go (inl h) = g a h m
     go (inr h) = f a l h
 
-pub rising-join : (w : ℕ → ℕ) (p : ℕ → Bool) (c d e : ℕ) (o u : Option Hit) → c ≤ d → d ≤ e → Rising w p c d o → Rising w p d e u → Rising w p c e (orElse o u)
-rising-join w p c d e none none l m f g = bare-join p c d e f g
-rising-join w p c d e none (some x) l m f g =
-    record { yes = g .yes; low = omega arith; high = g .high; rest = bare-join p c d (x .at) f (g .rest); ends = g .ends }
-rising-join w p c d e (some x) u l m f g = record { yes = f .yes; low = f .low; high = omega arith; rest = f .rest; ends = f .ends }
+-- upwards what is found in the lower stretch comes first
+pub join-up : (w : ℕ → Run) (p : ℕ → Bool) (c d e : ℕ) (o u : Option Hit) → c ≤ d → d ≤ e → Finds Up w p c d o → Finds Up w p d e u → Finds Up w p c e (orElse o u)
+join-up w p c d e none none l m f g = bare-join p c d e f g
+join-up w p c d e none (some x) l m f g = record { yes = g .yes; low = omega arith; high = g .high; rest = bare-join p c d (x .at) f (g .rest); run = g .run }
+join-up w p c d e (some x) u l m f g = record { yes = f .yes; low = f .low; high = omega arith; rest = f .rest; run = f .run }
 
--- from the top: what is found in the higher stretch comes first
-pub falling-join : (p : ℕ → Bool) (c d e : ℕ) (o u : Option ℕ) → c ≤ d → d ≤ e → Falling p d e o → Falling p c d u → Falling p c e (orElse o u)
-falling-join p c d e none none l m f g = bare-join p c d e g f
-falling-join p c d e none (some x) l m f g = record { yes = g .yes; low = g .low; high = omega arith; rest = bare-join p (suc x) d e (g .rest) f }
-falling-join p c d e (some x) u l m f g = record { yes = f .yes; low = omega arith; high = f .high; rest = f .rest }
+-- downwards what is found in the higher
+pub join-down : (w : ℕ → Run) (p : ℕ → Bool) (c d e : ℕ) (o u : Option Hit) → c ≤ d → d ≤ e → Finds Down w p d e o → Finds Down w p c d u → Finds Down w p c e (orElse o u)
+join-down w p c d e none none l m f g = bare-join p c d e g f
+join-down w p c d e none (some x) l m f g = record { yes = g .yes; low = g .low; high = omega arith; rest = bare-join p (suc (x .at)) d e (g .rest) f; run = g .run }
+join-down w p c d e (some x) u l m f g = record { yes = f .yes; low = omega arith; high = f .high; rest = f .rest; run = f .run }
 
--- ---- what is found from 0 is the lowest, and the highest
+-- ---- what is found from 0 on is the lowest, or the highest
 
 same-place : (x y : ℕ) → (x < y → ⊥) → (y < x → ⊥) → x ≡ y
 same-place x y f g = go (le-or-lt x y) (le-or-lt y x)
@@ -68,26 +63,36 @@ same-place x y f g = go (le-or-lt x y) (le-or-lt y x)
     go (inl h) (inr i) = absurd (f i)
     go (inr h) i = absurd (g h)
 
-pub rising-lowest : (w : ℕ → ℕ) (p : ℕ → Bool) (n : ℕ) (o : Option Hit) → Rising w p 0 n o → o ≡ hitOf w (lowest p n)
-rising-lowest w p n o f = go o f (lowest p n) (lowest-gives p n)
-  where
-    go : (o : Option Hit) → Rising w p 0 n o → (u : Option ℕ) → Gives p (λ b a. b < a) n u → o ≡ hitOf w u
-    go none f none g = refl
-    go none f (some y) g = absurd (clash (p y) (g .0) (f y (omega arith) (g .1 .0)))
-    go (some x) f none g = absurd (clash (p (x .at)) (f .yes) (g (x .at) (f .high)))
-    go (some x) f (some y) g =
-        let s : x .at ≡ y = same-place (x .at) y (λ h. clash (p (x .at)) (f .yes) (g .1 .1 (x .at) (f .high) h)) (λ h. clash (p y) (g .0) (f .rest y (omega arith) h)) in
-        let t : x .end ≡ w y = f .ends ∙ ap w s in
-        λ i. some (record { at = s i; end = t i })
+-- an answer with its run, as Gives has it without
+abbrev Given : (ℕ → Run) → (ℕ → Bool) → (ℕ → ℕ → Type 0) → ℕ → Option Hit → Type 0
+Given w p beyond n none = Gives p beyond n none
+Given w p beyond n (some x) = Gives p beyond n (some (x .at)) × (x .run ≡ w (x .at))
 
-pub falling-highest : (p : ℕ → Bool) (n : ℕ) (o : Option ℕ) → Falling p 0 n o → o ≡ highest p n
-falling-highest p n o f = go o f (highest p n) (highest-gives p n)
-  where
-    go : (o : Option ℕ) → Falling p 0 n o → (u : Option ℕ) → Gives p (λ b a. a < b) n u → o ≡ u
-    go none f none g = refl
-    go none f (some y) g = absurd (clash (p y) (g .0) (f y (omega arith) (g .1 .0)))
-    go (some x) f none g = absurd (clash (p x) (f .yes) (g x (f .high)))
-    go (some x) f (some y) g = ap some (same-place x y (λ h. clash (p y) (g .0) (f .rest y h (g .1 .0))) (λ h. clash (p x) (f .yes) (g .1 .1 x (f .high) h)))
+-- there is one such answer, whichever way lies beyond
+one-answer : (w : ℕ → Run) (p : ℕ → Bool) (beyond : ℕ → ℕ → Type 0) (n : ℕ) → ((x y : ℕ) → (beyond x y → ⊥) → (beyond y x → ⊥) → x ≡ y)
+    → (o : Option Hit) → Given w p beyond n o → (u : Option ℕ) → Gives p beyond n u → o ≡ hitOf w u
+one-answer w p beyond n same none f none g = refl
+one-answer w p beyond n same none f (some y) g = absurd (clash (p y) (g .0) (f y (g .1 .0)))
+one-answer w p beyond n same (some x) f none g = absurd (clash (p (x .at)) (f .0 .0) (g (x .at) (f .0 .1 .0)))
+one-answer w p beyond n same (some x) f (some y) g =
+    let s : x .at ≡ y =
+    same (x .at) y (λ h. clash (p (x .at)) (f .0 .0) (g .1 .1 (x .at) (f .0 .1 .0) h)) (λ h. clash (p y) (g .0) (f .0 .1 .1 y (g .1 .0) h)) in
+    let t : x .run ≡ w y = f .1 ∙ ap w s in
+    λ i. some (record { at = s i; run = t i })
+
+module _ (w : ℕ → Run) (p : ℕ → Bool) (n : ℕ) where
+  abbrev Beyond : Way → ℕ → ℕ → Type 0
+  Beyond Up b a = b < a
+  Beyond Down b a = a < b
+
+  given : (v : Way) (o : Option Hit) → Finds v w p 0 n o → Given w p (Beyond v) n o
+  given v none f = λ b l. f b (omega arith) l
+  given Up (some x) f = ((f .yes, (f .high, λ b l m. f .rest b (omega arith) m)), f .run)
+  given Down (some x) f = ((f .yes, (f .high, λ b l m. f .rest b m l)), f .run)
+
+  pub finds-extreme : (v : Way) (o : Option Hit) → Finds v w p 0 n o → o ≡ hitOf w (extreme v p n)
+  finds-extreme Up o f = one-answer w p (Beyond Up) n same-place o (given Up o f) (lowest p n) (lowest-gives p n)
+  finds-extreme Down o f = one-answer w p (Beyond Down) n (λ x y i j. same-place x y j i) o (given Down o f) (highest p n) (highest-gives p n)
 
 -- ---- only what p says below n counts
 

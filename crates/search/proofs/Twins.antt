@@ -1,37 +1,41 @@
--- Executable twins of the search: the walk over records and the gaps in them, rising and falling. Assumes nothing.
+-- Executable twins of the walks: records and the gaps in them, upwards and downwards. Assumes nothing.
 use Prim.Native.Nat.{ℕ, min, max}
-use mathlib.Core.Bool.{cond}
+use mathlib.Core.Bool.{Bool, cond}
 use mathlib.Core.List.{List, [], _∷_}
 use mathlib.Core.Option.{Option, none}
-use lib.Dec.{leb}
+use lib.Dec.{ltb}
 use Rattle.regions.specs.declared.Region.{Region}
 use Rattle.regions.specs.Meaning.{end}
-use Rattle.search.specs.Search.{orElse}
-use Rattle.search.specs.Steps.{Hit, serves}
+use Rattle.search.specs.declared.Query.{Query}
+use Rattle.search.specs.Search.{asks, orElse, lowest, highest}
+use Rattle.search.specs.Steps.{Hit, serves, fitLow, fitHigh}
 
--- ---- rising: the gaps that the taken regions leave from lo to hi, and then as k says, over the taken regions that are left
+-- which way a walk goes
+pub data Way : Type 0 where
+  Up : Way
+  Down : Way
 
-unfoldable pub gaps : (ℕ → ℕ → Option Hit) → (List Region → Option Hit) → ℕ → ℕ → List Region → Option Hit
-gaps fit k hi lo [] = orElse (fit lo hi) (k [])
-gaps fit k hi lo (t ∷ ts) =
-    cond (leb hi (t .base .0)) (orElse (fit lo hi) (k (t ∷ ts)))
-    (orElse (fit lo (t .base .0)) (cond (leb hi (end t)) (k (t ∷ ts)) (gaps fit k hi (max lo (end t)) ts)))
+-- what it looks for, among all numbers below n and in one stretch
+abbrev pub extreme : Way → (ℕ → Bool) → ℕ → Option ℕ
+extreme Up = lowest
+extreme Down = highest
 
-unfoldable pub walk : ℕ → (ℕ → ℕ → Option Hit) → List Region → List Region → Option Hit
-walk node fit [] ts = none
-walk node fit (r ∷ rs) ts = cond (serves node r) (gaps fit (walk node fit rs) (end r) (r .base .0) ts) (walk node fit rs ts)
+abbrev pub fit : Way → Query → ℕ → ℕ → Option Hit
+fit Up = fitLow
+fit Down = fitHigh
 
--- ---- falling: the lists have the highest region first
+-- the gaps that the taken regions leave from lo to hi, as far as the window goes, and then as k says, over the taken regions that are left;
+-- downwards the lists have the highest region first
+unfoldable pub gaps : Way → Query → (List Region → Option Hit) → ℕ → ℕ → List Region → Option Hit
+gaps w q k lo hi [] = orElse (fit w q lo hi) (k [])
+gaps Up q k lo hi (t ∷ ts) =
+    orElse (fitLow q lo (min hi (t .base .0))) (cond (ltb (min hi (q .end .0)) (end t)) (k (t ∷ ts)) (gaps Up q k (max lo (end t)) hi ts))
+gaps Down q k lo hi (t ∷ ts) =
+    orElse (fitHigh q (max lo (end t)) hi) (cond (ltb (t .base .0) (max lo (q .start .0))) (k (t ∷ ts)) (gaps Down q k lo (min hi (t .base .0)) ts))
 
-unfoldable pub gapsDown : (ℕ → ℕ → Option ℕ) → (List Region → Option ℕ) → ℕ → ℕ → List Region → Option ℕ
-gapsDown fit k lo hi [] = orElse (fit lo hi) (k [])
-gapsDown fit k lo hi (t ∷ ts) =
-    cond (leb (end t) lo) (orElse (fit lo hi) (k (t ∷ ts)))
-    (orElse (fit (end t) hi) (cond (leb (t .base .0) lo) (k (t ∷ ts)) (gapsDown fit k lo (min hi (t .base .0)) ts)))
-
-unfoldable pub walkDown : ℕ → (ℕ → ℕ → Option ℕ) → List Region → List Region → Option ℕ
-walkDown node fit [] ts = none
-walkDown node fit (r ∷ rs) ts = cond (serves node r) (gapsDown fit (walkDown node fit rs) (r .base .0) (end r) ts) (walkDown node fit rs ts)
+unfoldable pub walk : Way → Query → List Region → List Region → Option Hit
+walk w q [] ts = none
+walk w q (r ∷ rs) ts = cond (serves (asks q) r) (gaps w q (walk w q rs) (r .base .0) (end r) ts) (walk w q rs ts)
 
 -- a list turned round, onto what is there already
 unfoldable pub onto : List Region → List Region → List Region

@@ -9,11 +9,12 @@ use Rattle.address.specs.Numbers.{powerOfTwo}
 use Rattle.regions.specs.declared.Kind.the-variants.{Taken}
 use Rattle.regions.specs.declared.Change.the-variants.{Fill}
 use Rattle.regions.specs.Bytes.{bytes}
+use Rattle.regions.specs.Runs.{runAt}
 use Rattle.tables.specs.declared.block.Layout.{Layout}
 use Rattle.tables.specs.Block.{Contents, contents, good}
 use Rattle.tables.specs.Commands.{Outcome, tag, changeRange}
 use Rattle.search.specs.declared.Query.{Query}
-use Rattle.search.specs.Search.{found, lowestFree, runsOf, runEnd}
+use Rattle.search.specs.Search.{found, lowestFree, runsOf}
 
 -- the number, and every byte of the block and of the answer slip after the call
 pub record Answer : Type 0 where
@@ -71,7 +72,7 @@ allocate L q b slip = asking L q b slip (allocateAnswer L b (q .size .0) (found 
 -- next free's address and the end of its run
 abbrev pub nextFreeAnswer : List ℕ → Contents → Option ℕ → Answer
 nextFreeAnswer b s none = refuse 5 b
-nextFreeAnswer b s (some a) = answer 0 b (slipOf a (runEnd (runsOf s) a))
+nextFreeAnswer b s (some a) = answer 0 b (slipOf a (runAt (runsOf s) a .end .0))
 
 unfoldable pub nextFree : Layout → ℕ → ℕ → List ℕ → List ℕ → Answer
 nextFree L p node b slip =

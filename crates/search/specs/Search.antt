@@ -1,12 +1,14 @@
 -- Which addresses a search may give, and which of them it gives. Assumes nothing.
 use Prim.Native.Nat.{ℕ, zero, suc, _+_, _%_, min, max}
-use mathlib.Core.Bool.{Bool, false, cond, _&&_, _||_}
-use mathlib.Core.List.{List, [], _∷_}
+use mathlib.Core.Bool.{Bool, cond, _&&_, _||_}
+use mathlib.Core.List.{List}
 use mathlib.Core.Option.{Option, none, some}
 use lib.Dec.{leb, eqb}
+use Rattle.regions.specs.declared.Tag.{Tag}
 use Rattle.regions.specs.declared.Region.{Region}
-use Rattle.regions.specs.Meaning.{end, inside, top}
+use Rattle.regions.specs.Meaning.{top}
 use Rattle.regions.specs.Free.{freeRuns}
+use Rattle.regions.specs.Runs.{inOne}
 use Rattle.tables.specs.Block.{Contents}
 use Rattle.search.specs.declared.Query.{Query}
 
@@ -35,19 +37,17 @@ highest p (suc n) = cond (p n) (some n) (highest p n)
 abbrev pub asked : ℕ → ℕ → Bool
 asked node n = eqb node 4294967295 || eqb n node
 
--- the size addresses from a lie in the run r, of the node asked for
-abbrev pub holds : ℕ → ℕ → ℕ → Region → Bool
-holds node size a r = asked node (r .tag .node) && (leb (r .base .0) a && leb (a + size) (end r))
+-- a tag of the node asked for; and what a query asks of a tag
+abbrev pub onNode : ℕ → Tag → Bool
+onNode node t = asked node (t .node)
 
--- they lie in one of the runs
-unfoldable pub inOne : ℕ → ℕ → ℕ → List Region → Bool
-inOne node size a [] = false
-inOne node size a (r ∷ rs) = holds node size a r || inOne node size a rs
+abbrev pub asks : Query → Tag → Bool
+asks q t = onNode (q .node) t
 
 -- document 01's eligible: a multiple of the alignment, start ≤ a, a + size ≤ end, and the size addresses from a in one free run
 unfoldable pub eligible : Query → List Region → ℕ → Bool
 eligible q runs a =
-    eqb (a % q .align .0) 0 && ((leb (q .start .0) a && leb (a + q .size .0) (q .end .0)) && inOne (q .node) (q .size .0) a runs)
+    eqb (a % q .align .0) 0 && ((leb (q .start .0) a && leb (a + q .size .0) (q .end .0)) && inOne (asks q) (q .size .0) a runs)
 
 -- ---- find
 
@@ -84,12 +84,7 @@ found s q =
 
 -- a at or above p, in a free run of the node asked for
 abbrev pub freeFrom : ℕ → ℕ → List Region → ℕ → Bool
-freeFrom p node runs a = leb p a && inOne node 1 a runs
-
--- the end of the run that a lies in; 0, if it lies in none
-unfoldable pub runEnd : List Region → ℕ → ℕ
-runEnd [] a = 0
-runEnd (r ∷ rs) a = cond (inside (r .base .0) (end r) a) (end r) (runEnd rs a)
+freeFrom p node runs a = leb p a && inOne (onNode node) 1 a runs
 
 unfoldable pub lowestFree : Contents → ℕ → ℕ → Option ℕ
 lowestFree s p node = lowest (freeFrom p node (runsOf s)) top

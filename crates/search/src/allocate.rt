@@ -5,7 +5,7 @@ use crate::find::Asked;
 use crate::find::check;
 use crate::find::clear_slip;
 use crate::find::put_slip;
-use crate::fit::Found;
+use crate::fit::Place;
 use address::Address;
 use address::Size;
 use regions::Kind;
@@ -48,7 +48,7 @@ pub fn allocate(block: &mut [u8], q: Query, slip: &mut [u8]) -> u32
     if let Asked::Refused(number) = check(block, q) {
         return number;
     }
-    let Found::At(a) = find_in(block, q) else {
+    let Place::Here(a, _) = find_in(block, q) else {
         return 5;
     };
     let size = q.size;

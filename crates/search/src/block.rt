@@ -1,6 +1,5 @@
 // The search of a good block: its header says what to do, and its two tables are lent as parts of it.
 use crate::Query;
-use crate::fit::Found;
 use crate::fit::Place;
 use crate::walk::walk_high;
 use crate::walk::walk_low;
@@ -13,8 +12,8 @@ ghost use mathlib.Core.Bool.{true};
 ghost use Prim.Native.Nat.{_≤_};
 ghost use lib.ListN.{length};
 ghost use Rattle.tables.specs.Block.{current, contents, good};
-ghost use Rattle.search.specs.Search.{boundedEnd, window as windowOf, found};
-ghost use Rattle.search.specs.Steps.{foundOf, placeOf, Ready, partsOf, lowestOf, highestOf, nextQuery, nextHit};
+ghost use Rattle.search.specs.Search.{boundedEnd, window as windowOf};
+ghost use Rattle.search.specs.Steps.{placeOf, Ready, partsOf, lowestOf, highestOf, foundHit, nextQuery, nextHit};
 
 // Where a search with this end ends in a block with this limit: 0 means the limit, and a named end is cut to it.
 fn bounded_end(limit: Address, end: Address) -> Address
@@ -69,7 +68,7 @@ fn parts_of(block: &[u8]) -> Parts
     }
 }
 
-// The lowest eligible address of the block, with the end of its run.
+// The lowest eligible address of the block, with its run.
 fn lowest_in(block: &[u8], q: Query) -> Place
     requires { ⌜ Ready (now block) q ⌝ }
     ensures { λ r. ⌜ r ≡ placeOf (lowestOf (contents current (now (block .entry))) q) ⌝ }
@@ -86,10 +85,10 @@ fn lowest_in(block: &[u8], q: Query) -> Place
     )
 }
 
-// The highest eligible address of the block.
-fn highest_in(block: &[u8], q: Query) -> Found
+// The highest eligible address of the block, with its run.
+fn highest_in(block: &[u8], q: Query) -> Place
     requires { ⌜ Ready (now block) q ⌝ }
-    ensures { λ r. ⌜ r ≡ foundOf (highestOf (contents current (now (block .entry))) q) ⌝ }
+    ensures { λ r. ⌜ r ≡ placeOf (highestOf (contents current (now (block .entry))) q) ⌝ }
 {
     let p = parts_of(block);
     let middle = p.middle;
@@ -103,19 +102,16 @@ fn highest_in(block: &[u8], q: Query) -> Found
     )
 }
 
-// What find finds: bottom-up (direction 1) the lowest eligible address, top-down the highest.
-pub fn find_in(block: &[u8], q: Query) -> Found
+// What find finds, with its run: bottom-up (direction 1) the lowest eligible address, top-down the highest.
+pub fn find_in(block: &[u8], q: Query) -> Place
     requires { ⌜ Ready (now block) q ⌝ }
-    ensures { λ r. ⌜ r ≡ foundOf (found (contents current (now (block .entry))) q) ⌝ }
+    ensures { λ r. ⌜ r ≡ placeOf (foundHit (contents current (now (block .entry))) q) ⌝ }
 {
     let h = get_header(block);
     let limit = h.limit;
     let w = window(limit, q);
     if h.direction == 1 {
-        let Place::Here(a, _) = lowest_in(block, w) else {
-            return Found::Nothing;
-        };
-        return Found::At(a);
+        return lowest_in(block, w);
     }
     highest_in(block, w)
 }
@@ -133,7 +129,7 @@ pub fn next_query(p: Address, node: u32) -> Query
     }
 }
 
-// The lowest address at or above `p` in a free run of the node asked for, with the end of that run: the rising walk for one address.
+// The lowest address at or above `p` in a free run of the node asked for, with that run: the rising walk for one address.
 pub fn next_in(block: &[u8], p: Address, node: u32) -> Place
     requires { ⌜ good current (now block) ≡ true ⌝ }
     ensures { λ r. ⌜ r ≡ placeOf (nextHit (contents current (now (block .entry))) (p .0) node) ⌝ }

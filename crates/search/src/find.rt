@@ -3,7 +3,6 @@ use crate::Query;
 use crate::block::find_in;
 use crate::block::next_in;
 use crate::block::next_query;
-use crate::fit::Found;
 use crate::fit::Place;
 use address::Address;
 use regions::bytes::put_u64;
@@ -81,7 +80,7 @@ pub fn find(block: &[u8], q: Query, slip: &mut [u8]) -> u32
     if let Asked::Refused(number) = check(block, q) {
         return number;
     }
-    let Found::At(a) = find_in(block, q) else {
+    let Place::Here(a, _) = find_in(block, q) else {
         return 5;
     };
     put_slip(slip, a, Address(a.0 + q.size.0));
@@ -99,9 +98,10 @@ pub fn next_free(block: &[u8], p: Address, node: u32, slip: &mut [u8]) -> u32
     if let Asked::Refused(number) = check(block, next_query(p, node)) {
         return number;
     }
-    let Place::Here(a, end) = next_in(block, p, node) else {
+    let Place::Here(a, run) = next_in(block, p, node) else {
         return 5;
     };
+    let end = run.end;
     put_slip(slip, a, end);
     0
 }

@@ -1,27 +1,24 @@
-// What fits one stretch of free addresses of one tag.
+// What a search answers, and what fits one stretch of free addresses of one tag, cut to the window.
 use crate::Query;
 use address::Address;
 use address::CheckedAddress;
 use regions::Region;
+use regions::Run;
 ghost use mathlib.Core.Path.{_≡_};
-ghost use Prim.Native.Nat.{_<_};
-ghost use Rattle.search.specs.Steps.{foundOf, placeOf, serves, fitLow, fitHigh};
+ghost use mathlib.Core.Bool.{true};
+ghost use Rattle.address.specs.Numbers.{powerOfTwo};
+ghost use Rattle.search.specs.Search.{onNode};
+ghost use Rattle.search.specs.Steps.{spotOf, serves, cutLow, cutHigh};
 
-// An address, where there is one.
-pub enum Found {
-    At(Address),
-    Nothing,
-}
-
-// An address and the end of the free run that it lies in.
+// An address and the whole free run that it lies in.
 pub enum Place {
-    Here(Address, Address),
+    Here(Address, Run),
     Nowhere,
 }
 
 // Whether the record's addresses may lie in free runs of the node asked for: not no-map (flag 4), and of that node.
 pub fn serving(r: Region, node: u32) -> bool
-    ensures { λ b. ⌜ b ≡ serves node r ⌝ }
+    ensures { λ b. ⌜ b ≡ serves (onNode node) r ⌝ }
 {
     if r.tag.flags / 4 % 2 == 1 {
         return false;
@@ -32,55 +29,47 @@ pub fn serving(r: Region, node: u32) -> bool
     r.tag.node == node
 }
 
-// The lowest address that fits the stretch from `lo` up to, not including, `hi`.
-pub fn fit_low(lo: Address, hi: Address, q: Query) -> Place
-    requires { ⌜ 0 < q .align .0 ⌝ }
-    ensures { λ r. ⌜ r ≡ placeOf (fitLow q (lo .0) (hi .0)) ⌝ }
+// The lowest address that fits from `from` up to, not including, `to`.
+pub fn fit_low(from: Address, to: Address, q: Query) -> CheckedAddress
+    requires { ⌜ powerOfTwo (q .align .0) ≡ true ⌝ }
+    ensures { λ r. ⌜ r ≡ spotOf (cutLow q (from .0) (to .0)) ⌝ }
 {
-    let start = q.start;
-    let end = q.end;
     let size = q.size;
     let align = q.align;
-    let from = lo.max(start);
-    let to = hi.min(end);
     if to.0 < from.0 {
-        return Place::Nowhere;
+        return CheckedAddress::Outside;
     }
     if to.0 - from.0 < size.0 {
-        return Place::Nowhere;
+        return CheckedAddress::Outside;
     }
     let CheckedAddress::At(a) = from.up(align) else {
-        return Place::Nowhere;
+        return CheckedAddress::Outside;
     };
     let CheckedAddress::At(e) = a.plus(size) else {
-        return Place::Nowhere;
+        return CheckedAddress::Outside;
     };
     if to.0 < e.0 {
-        return Place::Nowhere;
+        return CheckedAddress::Outside;
     }
-    Place::Here(a, hi)
+    CheckedAddress::At(a)
 }
 
-// The highest address that fits the stretch from `lo` up to, not including, `hi`.
-pub fn fit_high(lo: Address, hi: Address, q: Query) -> Found
-    requires { ⌜ 0 < q .align .0 ⌝ }
-    ensures { λ r. ⌜ r ≡ foundOf (fitHigh q (lo .0) (hi .0)) ⌝ }
+// The highest address that fits from `from` up to, not including, `to`.
+pub fn fit_high(from: Address, to: Address, q: Query) -> CheckedAddress
+    requires { ⌜ powerOfTwo (q .align .0) ≡ true ⌝ }
+    ensures { λ r. ⌜ r ≡ spotOf (cutHigh q (from .0) (to .0)) ⌝ }
 {
-    let start = q.start;
-    let end = q.end;
     let size = q.size;
     let align = q.align;
-    let from = lo.max(start);
-    let to = hi.min(end);
     let CheckedAddress::At(last) = to.minus(size) else {
-        return Found::Nothing;
+        return CheckedAddress::Outside;
     };
     if last.0 < from.0 {
-        return Found::Nothing;
+        return CheckedAddress::Outside;
     }
     let a = last.down(align);
     if a.0 < from.0 {
-        return Found::Nothing;
+        return CheckedAddress::Outside;
     }
-    Found::At(a)
+    CheckedAddress::At(a)
 }

@@ -1,13 +1,10 @@
 -- The commands on a range, answer by answer. Assumes nothing.
-use Prim.Native.Nat.{ℕ, _<_}
+use Prim.Native.Nat.{ℕ}
 use mathlib.Core.Path.{_≡_, sym, _∙_}
 use mathlib.Core.Bool.{Bool, true, false, not}
 use mathlib.Core.List.{List}
-use native.Mathlib.Omega.{arith}
-use lib.Pow.{pow-pos}
 use borrow.Author.Tests.{not-true, not-false}
 use Rattle.address.specs.Numbers.{powerOfTwo}
-use Rattle.address.proofs.Powers.{power-is}
 use Rattle.regions.specs.declared.Kind.the-variants.{Memory, Taken}
 use Rattle.regions.specs.declared.Tag.{Tag}
 use Rattle.regions.specs.declared.Change.the-variants.{Fill, Clear, Mark, Unmark}
@@ -67,12 +64,6 @@ module _ (base size : ℕ) (b : List ℕ) (o : Outcome) where
   free-is e = e
 
 -- ---- trim
-
--- a power of two is not 0
-pub power-some : (k : ℕ) → powerOfTwo k ≡ true → 0 < k
-power-some k e =
-    let p = power-is 64 k e in
-    omega (arith, pow-pos (p .0), p .2)
 
 -- past its checks, trim is the trimmed list
 pub trim-changes : (b : List ℕ) (k : ℕ) → good current b ≡ true → powerOfTwo k ≡ true → (z : List ℕ) → z ≡ blockBytes current (withList (contents current b) Memory (trimmedList k (contents current b .memory)))

@@ -11,7 +11,9 @@ use lib.Seq.{sets}
 use borrow.Author.Tests.{leb-true, eqb-true}
 use Rattle.address.specs.declared.Address.{Address}
 use Rattle.address.specs.declared.Size.{Size}
+use Rattle.address.specs.Numbers.{powerOfTwo}
 use Rattle.address.proofs.Tests.{both}
+use Rattle.address.proofs.Powers.{power-some}
 use Rattle.regions.specs.declared.Kind.{Kind}
 use Rattle.regions.specs.declared.Kind.the-variants.{Memory, Taken}
 use Rattle.regions.specs.declared.Tag.{Tag}
@@ -60,6 +62,14 @@ legal-light k [] e = tt
 legal-light k (r ∷ rs) e =
     let p = both (legalTag k (r .tag)) (legal k rs) e in
     (tag-light k (r .tag) (p .0), legal-light k rs (p .1))
+
+pub good-table : (k : Kind) (n : ℕ) (l : List ℕ) → 24 * n ≤ length l → goodList k (readRegions n l) ≡ true → Table l n
+good-table k n l h g =
+    record {
+      room = h;
+      rising = Rises-rises (good-rises k (readRegions n l) g);
+      light = legal-light k (readRegions n l) (good-legal k (readRegions n l) g);
+    }
 
 -- a legal list of the taken table has one tag
 taken-tagged : (xs : List Region) → legal Taken xs ≡ true → AllTagged (tag 0 0) xs
@@ -111,11 +121,7 @@ module _ (b : List ℕ) (g : good current b ≡ true) (k : Kind) (a e : ℕ) (ea
   pub range-table : Table (take (e - a) (drop a b)) (t .count)
   range-table =
       let n : t .count ≡ length (listOf (contents current b) k) = sym (read-regions-length (t .count) (take (e - a) (drop a b))) ∙ ap (length {A = Region}) list-is in
-      record {
-        room = omega (arith, room current (contents current b) (good-contents current b g) k, span-room k a e b g ea ee);
-        rising = rw list-is (Rises-rises (good-rises k (listOf (contents current b) k) isGood));
-        light = rw list-is (legal-light k (listOf (contents current b) k) (good-legal k (listOf (contents current b) k) isGood));
-      }
+      good-table k (t .count) (take (e - a) (drop a b)) (omega (arith, room current (contents current b) (good-contents current b g) k, span-room k a e b g ea ee)) (rw list-is isGood)
 
   -- a table's part of a good block, with its tally
   pub range-whole : Bytes b → Whole (take (e - a) (drop a b)) t
@@ -207,13 +213,13 @@ module _ (b : List ℕ) (g : good current b ≡ true) (k : Kind) (a e : ℕ) (ea
 -- ---- trim
 
 module _ (b : List ℕ) (g : good current b ≡ true) (a e : ℕ) (ea : a ≡ offset current Memory) (ee : e ≡ offset current Memory + 24 * capacity current Memory) (h : Header)
-    (eh : h ≡ readHeader b) (t : Tally) (et : t ≡ tallyOf h Memory) (k : Size) (pos : 0 < k .0) (x : List ℕ) (y : Tally)
+    (eh : h ≡ readHeader b) (t : Tally) (et : t ≡ tallyOf h Memory) (k : Size) (pow : powerOfTwo (k .0) ≡ true) (x : List ℕ) (y : Tally)
     (w : Trimmed (take (e - a) (drop a b)) x (roundEach (k .0) (readRegions (t .count) (take (e - a) (drop a b)))) y) where
   rises-memory : Canonical top (contents current b .memory)
   rises-memory = good-rises Memory (contents current b .memory) (lists-ok current (contents current b) (good-contents current b g) Memory)
 
   trimmed-is : roundEach (k .0) (readRegions (t .count) (take (e - a) (drop a b))) ≡ trimmedList (k .0) (contents current b .memory)
-  trimmed-is = ap (roundEach (k .0)) (list-is b g Memory a e ea ee h eh t et) ∙ sym (trim-rounds (k .0) (contents current b .memory) pos rises-memory)
+  trimmed-is = ap (roundEach (k .0)) (list-is b g Memory a e ea ee h eh t et) ∙ sym (trim-rounds (k .0) (contents current b .memory) (power-some (k .0) pow) rises-memory)
 
   pub trim-done : Bytes b → (l : Layout) → l ≡ current → (o : Header) → o ≡ withTally h Memory y → (z : List ℕ) → z ≡ sets (take a b ++ (x ++ drop (e - a) (drop a b))) 0 (headerBytes l o)
       → z ≡ blockBytes current (withList (contents current b) Memory (trimmedList (k .0) (contents current b .memory)))
@@ -225,7 +231,7 @@ module _ (b : List ℕ) (g : good current b ≡ true) (a e : ℕ) (ea : a ≡ of
       let r : y .count ≤ capacity current Memory =
       omega (
         arith,
-        ap (length {A = Region}) (trim-rounds (k .0) (contents current b .memory) pos rises-memory),
+        ap (length {A = Region}) (trim-rounds (k .0) (contents current b .memory) (power-some (k .0) pow) rises-memory),
         round-length (k .0) (contents current b .memory),
         room current (contents current b) (good-contents current b g) Memory,
       ) in

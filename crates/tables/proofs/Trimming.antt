@@ -13,9 +13,10 @@ use Rattle.address.specs.declared.Address.{Address}
 use Rattle.address.specs.declared.Size.{Size}
 use Rattle.address.specs.declared.CheckedAddress.{CheckedAddress}
 use Rattle.address.specs.declared.CheckedAddress.the-variants.{At, Outside}
-use Rattle.address.specs.Numbers.{address, up, down}
+use Rattle.address.specs.Numbers.{address, up, down, powerOfTwo}
 use Rattle.address.proofs.Checked.{address-at, address-outside}
 use Rattle.address.proofs.Rounding.{down-le}
+use Rattle.address.proofs.Powers.{power-some}
 use Rattle.regions.specs.declared.Region.{Region}
 use Rattle.regions.specs.declared.State.{State}
 use Rattle.regions.specs.declared.State.the-variants.{Absent, Present}
@@ -50,12 +51,12 @@ record-high l n i r t h e = rw e (high-at i n l 0 Absent (rises-Rises 0 Absent t
 
 -- ---- one record
 
-module _ (r : Region) (k : Size) (pos : 0 < k .0) (h : end r ≤ top) (x : CheckedAddress) (ex : x ≡ address (up (r .base .0) (k .0))) where
+module _ (r : Region) (k : Size) (pow : powerOfTwo (k .0) ≡ true) (h : end r ≤ top) (x : CheckedAddress) (ex : x ≡ address (up (r .base .0) (k .0))) where
   pub round-past : x ≡ Outside → Nothing ≡ rounded (k .0) r
   unfolding rounded
   round-past o =
       let l : down (end r) (k .0) ≤ up (r .base .0) (k .0) =
-      omega (arith, address-outside (up (r .base .0) (k .0)) x ex o, down-le (end r) (k .0) pos, top-is) in
+      omega (arith, address-outside (up (r .base .0) (k .0)) x ex o, down-le (end r) (k .0) (power-some (k .0) pow), top-is) in
       rw (le-ltb (up (r .base .0) (k .0)) (down (end r) (k .0)) l)
 
   module _ (b : Address) (eb : x ≡ At b) (y : CheckedAddress) (ey : y ≡ address (end r)) where
@@ -147,10 +148,10 @@ over-end t₀ t n i a b d = let e : i ≡ n = omega arith in rw e at d
 
 -- ---- the table
 
-module _ (t : List ℕ) (y : Tally) (w : Whole t y) (k : ℕ) (pos : 0 < k) (u : List ℕ) (n : ℕ) (h : n ≤ y .count) (p : readRegions n u ≡ roundEach k (readRegions (y .count) t))
+module _ (t : List ℕ) (y : Tally) (w : Whole t y) (k : ℕ) (pow : powerOfTwo k ≡ true) (u : List ℕ) (n : ℕ) (h : n ≤ y .count) (p : readRegions n u ≡ roundEach k (readRegions (y .count) t))
     (q : drop (24 * y .count) u ≡ drop (24 * y .count) t) where
   pub left-rises : rises 0 Absent top (readRegions n u) ≡ true
-  left-rises = rw p (Rises-rises (round-rises k pos (rises-Rises 0 Absent top (readRegions (y .count) t) (w .table .rising))))
+  left-rises = rw p (Rises-rises (round-rises k (power-some k pow) (rises-Rises 0 Absent top (readRegions (y .count) t) (w .table .rising))))
 
   pub left-zeros : zeros (drop (24 * y .count) u) ≡ true
   left-zeros = rw q (w .rest)

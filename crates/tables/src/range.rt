@@ -19,6 +19,7 @@ ghost use Prim.Native.Nat.{_+_, _*_, _<_, _≤_};
 ghost use Rattle.regions.specs.declared.Kind.the-variants.{Memory};
 ghost use Rattle.regions.specs.declared.Change.the-variants.{Fill};
 ghost use Rattle.regions.specs.Meaning.{top};
+ghost use Rattle.address.specs.Numbers.{powerOfTwo};
 ghost use Rattle.regions.specs.Trim.{trimmedList};
 ghost use Rattle.regions.specs.Changes.{cut};
 ghost use Rattle.tables.specs.Steps.{Known, Vacant};
@@ -94,7 +95,7 @@ pub fn fill_range(block: &mut [u8], kind: Kind, tag: Tag, base: Address, size: S
 
 // Trims the memory table of a good block by an alignment.
 pub fn trim_memory(block: &mut [u8], align: Size)
-    requires { ⌜ (good current (now block) ≡ true) × (0 < align .0) ⌝ }
+    requires { ⌜ (good current (now block) ≡ true) × (powerOfTwo (align .0) ≡ true) ⌝ }
     ensures { λ _. ⌜ now (block .exit) ≡ blockBytes current (withList (contents current (now (block .entry))) Memory (trimmedList (align .0) (contents current (now (block .entry)) .memory))) ⌝ }
 {
     let span = table_span(Kind::Memory);

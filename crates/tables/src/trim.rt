@@ -9,10 +9,12 @@ use regions::Region;
 use regions::bytes::get_region;
 use regions::bytes::put_region;
 ghost use mathlib.Core.Path.{_≡_};
+ghost use mathlib.Core.Bool.{true};
 ghost use Prim.Native.Nat.{_+_, _*_, _<_, _≤_};
 ghost use mathlib.Core.List.{_++_};
 ghost use lib.ListN.{length, drop};
 ghost use Rattle.regions.specs.Meaning.{end as endOf, top};
+ghost use Rattle.address.specs.Numbers.{powerOfTwo};
 ghost use Rattle.regions.specs.Trim.{roundEach};
 ghost use Rattle.regions.specs.Bytes.{readRegions};
 ghost use Rattle.tables.specs.Steps.{Table, Whole, Trimmed, rounded, leftOf};
@@ -24,7 +26,7 @@ pub enum Rounded {
 }
 
 fn round_region(r: Region, align: Size) -> Rounded
-    requires { ⌜ (0 < align .0) × (endOf r ≤ top) ⌝ }
+    requires { ⌜ (powerOfTwo (align .0) ≡ true) × (endOf r ≤ top) ⌝ }
     ensures { λ x. ⌜ x ≡ rounded (align .0) r ⌝ }
 {
     let start = r.base;
@@ -60,7 +62,7 @@ fn keep(out: &mut [u8], n: usize, x: Rounded) -> usize
 
 // Writes what is left of each record over the first of them, and answers how many there are.
 fn round_records(t: &mut [u8], count: usize, align: Size) -> usize
-    requires { ⌜ Table (now t) count × (0 < align .0) ⌝ }
+    requires { ⌜ Table (now t) count × (powerOfTwo (align .0) ≡ true) ⌝ }
     ensures { λ r. ⌜ (r ≤ count) × ((readRegions r (now (t .exit)) ≡ roundEach (align .0) (readRegions count (now (t .entry)))) × (drop (24 * count) (now (t .exit)) ≡ drop (24 * count) (now (t .entry)))) ⌝ }
 {
     let mut n = 0;
@@ -75,7 +77,7 @@ fn round_records(t: &mut [u8], count: usize, align: Size) -> usize
 
 // Makes a table hold what is left of its records, and answers their count and total.
 pub fn trim_table(t: &mut [u8], tally: Tally, align: Size) -> Tally
-    requires { ⌜ Whole (now t) tally × (0 < align .0) ⌝ }
+    requires { ⌜ Whole (now t) tally × (powerOfTwo (align .0) ≡ true) ⌝ }
     ensures { λ r. ⌜ Trimmed (now (t .entry)) (now (t .exit)) (roundEach (align .0) (readRegions (tally .count) (now (t .entry)))) r ⌝ }
 {
     let count = tally.count as usize;

@@ -1,26 +1,31 @@
 -- `address::Address::up` meets its contract.
-use native.Mathlib.Omega.{arith}
-use native.Mathlib.Nat.{mod-lt}
 use Rattle.address.proofs.Checked.{small-yes}
-use Rattle.address.proofs.Rounding.{up-even, up-odd}
+use Rattle.address.proofs.Rounding.{up-even, up-odd, rest-lt}
 use borrow.Author.Needs.{needs}
 use Rattle.address.proofs.Address.up.Statement.{statement}
 use Rattle.address.proofs.Address.up.Tie as tie
 
-rem-over : tie.Need-rem-over
-rem-over c = search needs
+remainder-requires : tie.Need-remainder-requires
+remainder-requires c κs = search needs
 
 returns : tie.Need-returns
-returns c = rw (up-even _ _ (c .if1 .taken)) (small-yes _ _ _ (search needs))
+returns c = rw (up-even _ _ _ (c .before .remainder .ensures) (c .if1 .taken)) (small-yes _ _ _ (search needs))
 
 sub-t5 : tie.Need-sub-t5
-sub-t5 c = omega (arith, mod-lt (c .before .before .before .before .args .self .0) (c .before .before .before .before .pre))
+sub-t5 c = rest-lt _ _ _ (c .before .before .remainder .ensures) (c .before .before .before .pre)
 
 plus-requires : tie.Need-plus-requires
 plus-requires c κs = search needs
 
 returns-2 : tie.Need-returns-2
-returns-2 c = rw (up-odd _ _ (c .before .before .if1 .left)) (c .plus .ensures)
+returns-2 c = rw (up-odd _ _ _ (c .before .before .before .remainder .ensures) (c .before .before .if1 .left)) (c .plus .ensures)
 
 pub up-spec : {M : Type 1} → statement M
-up-spec = tie.close (tie.spec rem-over returns sub-t5 plus-requires returns-2)
+up-spec =
+    tie.close
+    (tie.spec
+    remainder-requires
+    returns
+    sub-t5
+    plus-requires
+    returns-2)

@@ -1,17 +1,24 @@
 -- `address::Size::down` meets its contract.
-use native.Mathlib.Nat.{mod-le}
+use mathlib.Core.Path.{ap}
+use Prim.Native.Nat.{ℕ, _-_}
+use Rattle.address.proofs.Rounding.{rest-le}
 use borrow.Author.Needs.{needs}
 use Rattle.address.proofs.Size.down.Statement.{statement}
 use Rattle.address.proofs.Size.down.Tie as tie
 
-rem-t3 : tie.Need-rem-t3
-rem-t3 c = search needs
+remainder-requires : tie.Need-remainder-requires
+remainder-requires c κs = search needs
 
 sub-t4 : tie.Need-sub-t4
-sub-t4 c = search (mod-le, needs)
+sub-t4 c = rest-le _ _ _ (c .before .remainder .ensures)
 
 returns : tie.Need-returns
-returns c = search needs
+returns c = ap (λ (r : ℕ). c .before .before .args .self .0 - r) (c .before .remainder .ensures)
 
 pub down-spec : {M : Type 1} → statement M
-down-spec = tie.close (tie.spec rem-t3 sub-t4 returns)
+down-spec =
+    tie.close
+    (tie.spec
+    remainder-requires
+    sub-t4
+    returns)

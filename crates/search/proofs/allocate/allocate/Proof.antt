@@ -1,9 +1,9 @@
 -- `search::allocate::allocate` meets its contract.
-use Rattle.search.specs.declared.fit.Found.the-variants.{At, Nothing}
+use Rattle.search.specs.declared.fit.Place.the-variants.{Here, Nowhere}
 use Rattle.search.specs.declared.find.Asked.the-variants.{Fine}
 use mathlib.Core.Path.{_≡_}
-use Rattle.search.proofs.Answering.{fine-ready}
-use Rattle.search.proofs.Allocating.{found-vacant, allocate-no-slip, allocate-refused, allocate-none, allocate-some}
+use Rattle.search.proofs.Answering.{fine-ready, found-vacant}
+use Rattle.search.proofs.Allocating.{allocate-no-slip, allocate-refused, allocate-none, allocate-some}
 use borrow.Author.Needs.{needs}
 use Rattle.search.proofs.allocate.allocate.Statement.{statement}
 use Rattle.search.proofs.allocate.allocate.Tie as tie
@@ -11,7 +11,7 @@ use Rattle.search.proofs.allocate.allocate.Tie as tie
 check-fine : (c : tie.After-enum-told) → c .before .before .check .result ≡ Fine
 check-fine c = search needs
 
-found-at : (c : tie.After-known-told2) → c .before .before .before .find-in .result ≡ At (c .before .a .given .0 .0)
+found-at : (c : tie.After-known-told2) → c .before .before .before .find-in .result ≡ Here (c .before .a .given .0 .0) (c .before .a .given .0 .1 .0)
 found-at c = search needs
 
 returns : tie.Need-returns
@@ -59,7 +59,7 @@ returns-3 : tie.Need-returns-3
 returns-3 c =
     let x = c .before .before .before .before .before .before .check in
     let f = check-fine (c .before .before .before .before) in
-    let g : c .before .before .find-in .result ≡ Nothing = search needs in
+    let g : c .before .before .find-in .result ≡ Nowhere = search needs in
     allocate-none _ _ _ (c .before .before .before .before .before .before .before .before .before .before .before .before .if1 .left) _ (x .ensures) f _ (c .before .before .find-in .ensures) _ (c .before .before .before .before .before .before .before .before .before .before .clear-slip .ensures) g
 
 take-found-requires : tie.Need-take-found-requires
@@ -68,7 +68,7 @@ take-found-requires c κs =
     let f = check-fine (c .before .before .before .before .before .before .before .before) in
     let g = found-at (c .before .before .before) in
     let r = fine-ready _ _ _ (x .ensures) f in
-    let v = found-vacant _ (c .before .before .before .before .before .before .before .before .before .before .before .before .before .before .before .before .before .before .before .args .q) r _ (c .before .before .before .before .before .before .find-in .ensures) _ g in
+    let v = found-vacant _ (c .before .before .before .before .before .before .before .before .before .before .before .before .before .before .before .before .before .before .before .args .q) r _ (c .before .before .before .before .before .before .find-in .ensures) _ _ g in
     (r .good, ((r .size, v), c .before .before .before .before .before .before .before .before .before .before .before .before .before .before .clear-slip .ensures))
 
 same-length-5 : tie.Need-same-length-5
@@ -82,7 +82,7 @@ returns-4 c =
     let x = c .before .before .before .before .before .before .before .before .before .before .before .before .before .before .before .check in
     let f = check-fine (c .before .before .before .before .before .before .before .before .before .before .before .before .before) in
     let g = found-at (c .before .before .before .before .before .before .before .before) in
-    allocate-some _ _ _ (c .before .before .before .before .before .before .before .before .before .before .before .before .before .before .before .before .before .before .before .before .before .if1 .left) _ (x .ensures) f _ (c .before .before .before .before .before .before .before .before .before .before .before .find-in .ensures) _ g _ (c .before .before .before .before .take-found .ensures)
+    allocate-some _ _ _ (c .before .before .before .before .before .before .before .before .before .before .before .before .before .before .before .before .before .before .before .before .before .if1 .left) _ (x .ensures) f _ (c .before .before .before .before .before .before .before .before .before .before .before .find-in .ensures) _ _ g _ (c .before .before .before .before .take-found .ensures)
 
 pub allocate-spec : {M : Type 1} → statement M
 allocate-spec =

@@ -1,5 +1,5 @@
 -- `search::block::find_in` meets its contract.
-use Rattle.search.proofs.InBlock.{header-room, ready-window, find-low-none, find-low, find-high}
+use Rattle.search.proofs.InBlock.{header-room, ready-window, find-low, find-high}
 use borrow.Author.Needs.{needs}
 use Rattle.search.proofs.block.find_in.Statement.{statement}
 use Rattle.search.proofs.block.find_in.Tie as tie
@@ -13,23 +13,14 @@ window-requires c κs = search needs
 lowest-in-requires : tie.Need-lowest-in-requires
 lowest-in-requires c κs = search (ready-window, needs)
 
-enum-known-a : tie.Need-enum-known-a
-enum-known-a c = search needs
-
-enum-told : tie.Need-enum-told
-enum-told c = search needs
-
 returns : tie.Need-returns
-returns c = search (find-low-none, needs)
-
-returns-2 : tie.Need-returns-2
-returns-2 c = search (find-low, needs)
+returns c = search (find-low, needs)
 
 highest-in-requires : tie.Need-highest-in-requires
 highest-in-requires c κs = search (ready-window, needs)
 
-returns-3 : tie.Need-returns-3
-returns-3 c = search (find-high, needs)
+returns-2 : tie.Need-returns-2
+returns-2 c = search (find-high, needs)
 
 pub find-in-spec : {M : Type 1} → statement M
 find-in-spec =
@@ -38,9 +29,6 @@ find-in-spec =
     get-header-requires
     window-requires
     lowest-in-requires
-    enum-known-a
-    enum-told
     returns
-    returns-2
     highest-in-requires
-    returns-3)
+    returns-2)

@@ -4,12 +4,6 @@ use borrow.Author.Needs.{needs}
 use Rattle.search.proofs.fit.fit_high.Statement.{statement}
 use Rattle.search.proofs.fit.fit_high.Tie as tie
 
-max-requires : tie.Need-max-requires
-max-requires c κs = search needs
-
-min-requires : tie.Need-min-requires
-min-requires c κs = search needs
-
 minus-requires : tie.Need-minus-requires
 minus-requires c κs = search needs
 
@@ -38,8 +32,6 @@ pub fit-high-spec : {M : Type 1} → statement M
 fit-high-spec =
     tie.close
     (tie.spec
-    max-requires
-    min-requires
     minus-requires
     enum-known-last
     enum-told

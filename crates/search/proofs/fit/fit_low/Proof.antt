@@ -4,12 +4,6 @@ use borrow.Author.Needs.{needs}
 use Rattle.search.proofs.fit.fit_low.Statement.{statement}
 use Rattle.search.proofs.fit.fit_low.Tie as tie
 
-max-requires : tie.Need-max-requires
-max-requires c κs = search needs
-
-min-requires : tie.Need-min-requires
-min-requires c κs = search needs
-
 returns : tie.Need-returns
 returns c = search (low-none, needs)
 
@@ -50,8 +44,6 @@ pub fit-low-spec : {M : Type 1} → statement M
 fit-low-spec =
     tie.close
     (tie.spec
-    max-requires
-    min-requires
     returns
     returns-2
     up-requires

@@ -1,11 +1,11 @@
 -- `tables::commands::trim_on_good` meets its contract.
-use Rattle.tables.proofs.Commanding.{power-some, trim-changes}
+use Rattle.tables.proofs.Commanding.{trim-changes}
 use borrow.Author.Needs.{needs}
 use Rattle.tables.proofs.commands.trim_on_good.Statement.{statement}
 use Rattle.tables.proofs.commands.trim_on_good.Tie as tie
 
 trim-memory-requires : tie.Need-trim-memory-requires
-trim-memory-requires c κs = search (power-some, needs)
+trim-memory-requires c κs = search needs
 
 same-length : tie.Need-same-length
 same-length c = search needs

@@ -1,0 +1,26 @@
+-- Lying in one region of a list of runs, and the run of an address. Assumes nothing.
+use Prim.Native.Nat.{ℕ, _+_}
+use mathlib.Core.Bool.{Bool, false, cond, _&&_, _||_}
+use mathlib.Core.List.{List, [], _∷_}
+use lib.Dec.{leb}
+use Rattle.regions.specs.declared.Tag.{Tag}
+use Rattle.regions.specs.declared.Region.{Region}
+use Rattle.regions.specs.declared.Run.{Run}
+use Rattle.regions.specs.Meaning.{end, inside}
+
+-- the size addresses from a lie in the region r, whose tag passes p
+abbrev pub holds : (Tag → Bool) → ℕ → ℕ → Region → Bool
+holds p size a r = p (r .tag) && (leb (r .base .0) a && leb (a + size) (end r))
+
+-- they lie in one of the regions
+unfoldable pub inOne : (Tag → Bool) → ℕ → ℕ → List Region → Bool
+inOne p size a [] = false
+inOne p size a (r ∷ rs) = holds p size a r || inOne p size a rs
+
+abbrev pub runOf : ℕ → ℕ → Run
+runOf lo hi = record { low = record { 0 = lo }; end = record { 0 = hi } }
+
+-- the run that a lies in, from where to where; from 0 to 0, if it lies in none
+unfoldable pub runAt : List Region → ℕ → Run
+runAt [] a = runOf 0 0
+runAt (r ∷ rs) a = cond (inside (r .base .0) (end r) a) (runOf (r .base .0) (end r)) (runAt rs a)

@@ -6,7 +6,7 @@
  * Lending. A pointer is to as many bytes as the length after it says, and is never null. Any alignment will do. A buffer that
  * a call may write shares no byte with another buffer of that call. The block's address is nowhere kept: it may be moved or copied.
  *
- * The archive (libboot.a, x86-64, System V calling convention)
+ * The archive (libmemblock.a, x86-64, System V calling convention)
  * - leaves undefined at most memcpy, memmove, memset and memcmp, which boot code brings;
  * - allocates nothing and keeps nothing between calls but what is in the block: calls on different blocks may run at once, on other
  *   processors or from an interrupt; calls on one block are for the caller to keep apart;

@@ -90,48 +90,48 @@ fn say_same(before: &[u8; 6224], after: &[u8; 6224]) {
 
 fn fresh(block: &mut [u8]) {
     say(b"fresh");
-    say_answer(boot::memblock_fresh(block));
+    say_answer(memblock::memblock_fresh(block));
 }
 
 fn bottom_up(block: &mut [u8]) {
     say(b"set bottom-up");
-    say_answer(boot::memblock_set(block, TOP, 1));
+    say_answer(memblock::memblock_set(block, TOP, 1));
 }
 
 fn top_down(block: &mut [u8]) {
     say(b"set top-down");
-    say_answer(boot::memblock_set(block, TOP, 0));
+    say_answer(memblock::memblock_set(block, TOP, 0));
 }
 
 fn add(block: &mut [u8], base: u64, size: u64, node: u32) {
     say(b"add ");
     say_range(base, size);
     say_tag(0, node);
-    say_answer(boot::memblock_add(block, base, size, 0, node));
+    say_answer(memblock::memblock_add(block, base, size, 0, node));
 }
 
 fn remove(block: &mut [u8], base: u64, size: u64) {
     say(b"remove ");
     say_range(base, size);
-    say_answer(boot::memblock_remove(block, base, size));
+    say_answer(memblock::memblock_remove(block, base, size));
 }
 
 fn reserve(block: &mut [u8], base: u64, size: u64) {
     say(b"reserve ");
     say_range(base, size);
-    say_answer(boot::memblock_reserve(block, base, size));
+    say_answer(memblock::memblock_reserve(block, base, size));
 }
 
 fn free(block: &mut [u8], base: u64, size: u64) {
     say(b"free ");
     say_range(base, size);
-    say_answer(boot::memblock_free(block, base, size));
+    say_answer(memblock::memblock_free(block, base, size));
 }
 
 fn trim(block: &mut [u8], alignment: u64) {
     say(b"trim ");
     say_hex(alignment);
-    say_answer(boot::memblock_trim(block, alignment));
+    say_answer(memblock::memblock_trim(block, alignment));
 }
 
 fn say_search(size: u64, alignment: u64) {
@@ -146,7 +146,7 @@ fn find(block: &[u8], size: u64, alignment: u64) {
     let mut slip = [0xFFu8; 16];
     say(b"find");
     say_search(size, alignment);
-    let number = boot::memblock_find(block, size, alignment, 0, 0, ANY_NODE, &mut slip);
+    let number = memblock::memblock_find(block, size, alignment, 0, 0, ANY_NODE, &mut slip);
     say_slip(number, &slip);
 }
 
@@ -154,7 +154,7 @@ fn allocate(block: &mut [u8], size: u64, alignment: u64) {
     let mut slip = [0xFFu8; 16];
     say(b"allocate");
     say_search(size, alignment);
-    let number = boot::memblock_allocate(block, size, alignment, 0, 0, ANY_NODE, &mut slip);
+    let number = memblock::memblock_allocate(block, size, alignment, 0, 0, ANY_NODE, &mut slip);
     say_slip(number, &slip);
 }
 
@@ -162,7 +162,7 @@ fn next_free(block: &[u8], from: u64) {
     let mut slip = [0xFFu8; 16];
     say(b"next free from ");
     say_hex(from);
-    let number = boot::memblock_next_free(block, from, ANY_NODE, &mut slip);
+    let number = memblock::memblock_next_free(block, from, ANY_NODE, &mut slip);
     say_slip(number, &slip);
 }
 
@@ -312,7 +312,7 @@ fn case_10() {
 fn add_128(block: &mut [u8]) -> u64 {
     let mut done: u64 = 0;
     while done < 128 {
-        if boot::memblock_add(block, done * 0x2000, 0x1000, 0, 0) != 0 {
+        if memblock::memblock_add(block, done * 0x2000, 0x1000, 0, 0) != 0 {
             return done;
         }
         done += 1;

@@ -10,7 +10,7 @@ use Rattle.intake.specs.declared.e820.Becomes.the-variants.{Added, Passe
 use mathlib.Core.Bool.{true}
 use Rattle.regions.specs.declared.Kind.the-variants.{Memory}
 use Rattle.regions.specs.Lists.{legalTag}
-use Rattle.tables.specs.Block.{current}
+use Rattle.block.specs.Block.{current}
 use Rattle.tables.specs.Commands.{Outcome, outcome, tag, add}
 use Rattle.intake.specs.declared.e820.Entry.{Entry}
 use Rattle.intake.specs.E820.{becomes, takeAs, takeEntry}

@@ -15,10 +15,10 @@ use Rattle.regions.specs.declared.Change.the-variants.{Fill}
 use Rattle.regions.specs.Lists.{legalTag}
 use Rattle.regions.specs.Changes.{changed}
 use Rattle.regions.proofs.Legal.{fill-keeps}
-use Rattle.tables.specs.Block.{current, capacity, contents, good}
+use Rattle.block.specs.Block.{current, capacity, contents, good}
 use Rattle.tables.specs.Commands.{Outcome, outcome, store, tag, add, trim}
-use Rattle.tables.proofs.Setting.{small-current}
-use Rattle.tables.proofs.Kept.{change-kept, trim-kept}
+use Rattle.block.proofs.Layouts.{small-current}
+use Rattle.block.proofs.Kept.{change-kept, trim-kept}
 use Rattle.intake.specs.declared.e820.Entry.{Entry}
 use Rattle.intake.specs.declared.e820.Becomes.{Becomes}
 use Rattle.intake.specs.declared.e820.Becomes.the-variants.{Added, PassedOver}

@@ -8,7 +8,7 @@ use lib.Dec.{eqb}
 use lib.ListN.{drop}
 use borrow.Author.Tests.{eq-eqb, ne-eqb, eqb-true}
 use Rattle.regions.proofs.Items.{items-rest, items-end}
-use Rattle.tables.specs.Block.{current}
+use Rattle.block.specs.Block.{current}
 use Rattle.tables.specs.Commands.{Outcome, outcome, done, trim}
 use Rattle.intake.specs.declared.e820.Entry.{Entry}
 use Rattle.intake.specs.E820.{readEntry, readEntries, takeEntry, entrySteps}

@@ -8,10 +8,10 @@ use lib.Dec.{eqb}
 use lib.ListN.{length, take, drop}
 use lib.Seq.{take-all, drop-length}
 use borrow.Author.Tests.{eq-eqb, ne-eqb, le-leb, lt-leb, eqb-true, eqb-false}
-use Rattle.tables.specs.declared.block.Layout.{Layout}
-use Rattle.tables.specs.Block.{current, good}
+use Rattle.block.specs.declared.Layout.{Layout}
+use Rattle.block.specs.Block.{current, good}
 use Rattle.tables.specs.Commands.{Outcome, outcome, unless}
-use Rattle.tables.proofs.Blocks.{good-length, good-here, bad-here}
+use Rattle.block.proofs.Blocks.{good-length, good-here, bad-here}
 use Rattle.intake.specs.E820.{entries, readable, entrySteps, intakeE820}
 use Rattle.intake.specs.Turns.{Step, inTurn, wholly}
 

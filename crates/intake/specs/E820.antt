@@ -5,8 +5,8 @@ use mathlib.Core.List.{List, [], _∷_, _++_, map}
 use lib.Dec.{leb, eqb}
 use lib.ListN.{length, drop}
 use Rattle.regions.specs.Bytes.{number}
-use Rattle.tables.specs.declared.block.Layout.{Layout}
-use Rattle.tables.specs.Block.{good}
+use Rattle.block.specs.declared.Layout.{Layout}
+use Rattle.block.specs.Block.{good}
 use Rattle.tables.specs.Commands.{Outcome, done, unless, add, trim}
 use Rattle.intake.specs.declared.e820.Entry.{Entry}
 use Rattle.intake.specs.declared.e820.Becomes.{Becomes}

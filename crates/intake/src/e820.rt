@@ -1,19 +1,19 @@
 // E820 reports: entries of 20 bytes, u64 base, u64 length, u32 kind, little-endian.
 use address::Address;
 use address::Size;
+use block::block_good;
+use block::current_layout;
+use records::table::copy_front;
 use regions::Tag;
 use regions::bytes::get_u32;
 use regions::bytes::get_u64;
-use tables::block::block_good;
-use tables::block::current_layout;
 use tables::commands::add_on_good;
 use tables::commands::trim_on_good;
-use tables::table::copy_front;
 ghost use mathlib.Core.Path.{_≡_};
 ghost use Prim.Native.Nat.{_+_, _≤_};
 ghost use lib.ListN.{length, drop};
 ghost use mathlib.Core.Bool.{true};
-ghost use Rattle.tables.specs.Block.{current, good};
+ghost use Rattle.block.specs.Block.{current, good};
 ghost use Rattle.tables.specs.Commands.{outcome};
 ghost use Rattle.intake.specs.E820.{readEntry, entries, becomes as becomesOf, takeEntry, entrySteps, intakeE820};
 ghost use Rattle.intake.specs.Turns.{inTurn, wholly};

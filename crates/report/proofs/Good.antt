@@ -6,13 +6,13 @@ use mathlib.Core.List.{List}
 use lib.ListN.{length}
 use borrow.Author.Tests.{eq-eqb}
 use Rattle.regions.specs.Lists.{rises, legal}
-use Rattle.tables.specs.Block.{current, freshContents, good}
+use Rattle.block.specs.Block.{current, freshContents, good}
 use Rattle.tables.specs.Commands.{Outcome, outcome, fresh}
-use Rattle.tables.proofs.Setting.{small-current}
-use Rattle.tables.proofs.Reading.{good-spelled-block}
+use Rattle.block.proofs.Layouts.{small-current}
+use Rattle.block.proofs.Reading.{good-spelled-block}
 use Rattle.intake.specs.E820.{intakeE820}
 use Rattle.intake.proofs.Good.{intake-good}
-use Rattle.boot.proofs.Playing.{sound-spellable}
+use Rattle.memblock.proofs.Playing.{sound-spellable}
 
 fresh-good : (z : List ℕ) → length z ≡ 6224 → good current (fresh current z .block) ≡ true
 unfolding fresh rises legal

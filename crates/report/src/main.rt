@@ -1,19 +1,19 @@
 // Takes the E820 report in the file that its argument names in on a fresh block, and prints the number answered and every record of both tables: a
 // line each, in decimal, the fields in their order with one space between.
-use boot::memblock_fresh;
-use boot::memblock_intake_e820;
+use block::get_header;
 use libc::STDERR_FILENO;
 use libc::STDOUT_FILENO;
+use memblock::memblock_fresh;
+use memblock::memblock_intake_e820;
 use regions::Kind;
 use regions::Region;
 use regions::bytes::get_region;
-use tables::block::get_header;
 use tables::range::table_span;
 ghost use mathlib.Core.Path.{_≡_};
 ghost use mathlib.Core.Bool.{true};
 ghost use Prim.Native.Nat.{_*_, _≤_};
 ghost use lib.ListN.{length};
-ghost use Rattle.tables.specs.Block.{current, good};
+ghost use Rattle.block.specs.Block.{current, good};
 
 // One byte more than the longest report has: a longer file is then seen to be too long.
 const ROOM: usize = 2561;

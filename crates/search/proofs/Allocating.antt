@@ -13,19 +13,20 @@ use Rattle.regions.specs.declared.Region.{Region}
 use Rattle.regions.specs.declared.Kind.{Kind}
 use Rattle.regions.specs.declared.Kind.the-variants.{Taken}
 use Rattle.regions.specs.declared.Change.the-variants.{Fill}
-use Rattle.tables.specs.declared.block.Layout.{Layout}
-use Rattle.tables.specs.Block.{current, capacity, withList, blockBytes, contents}
+use Rattle.block.specs.declared.Layout.{Layout}
+use Rattle.block.specs.Block.{current, capacity, withList, blockBytes, contents}
 use Rattle.tables.specs.Commands.{Outcome, outcome, store, tag, changeRange}
 use Rattle.regions.specs.Runs.{runAt}
-use Rattle.search.specs.declared.Query.{Query}
+use Rattle.runs.specs.declared.Query.{Query}
 use Rattle.search.specs.declared.find.Asked.{Asked}
 use Rattle.search.specs.declared.find.Asked.the-variants.{Refused, Fine}
 use Rattle.regions.specs.declared.Run.{Run}
-use Rattle.search.specs.declared.fit.Place.{Place}
-use Rattle.search.specs.declared.fit.Place.the-variants.{Here, Nowhere}
+use Rattle.runs.specs.declared.fit.Place.{Place}
+use Rattle.runs.specs.declared.fit.Place.the-variants.{Here, Nowhere}
 use Rattle.search.specs.Search.{runsOf, found}
 use Rattle.search.specs.Answers.{Answer, answer, refuse, slipOf, reserved, allocate, allocateAnswer}
-use Rattle.search.specs.Steps.{hitOf, placeOf, foundHit, checked}
+use Rattle.runs.specs.Steps.{hitOf, placeOf}
+use Rattle.search.specs.Steps.{foundHit, checked}
 use Rattle.search.proofs.Answering.{refused, fine}
 
 -- a list that does not fit leaves the block

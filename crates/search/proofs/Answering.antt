@@ -15,21 +15,22 @@ use Rattle.address.proofs.Powers.{power-of}
 use Rattle.regions.specs.Meaning.{top, top-is}
 use Rattle.regions.specs.Bytes.{bytes}
 use Rattle.regions.proofs.Numbers.{bytes-length, sets-append}
-use Rattle.tables.specs.declared.block.Layout.{Layout}
-use Rattle.tables.specs.Block.{current, contents, good}
-use Rattle.tables.proofs.Blocks.{bad-here, good-here}
+use Rattle.block.specs.declared.Layout.{Layout}
+use Rattle.block.specs.Block.{current, contents, good}
+use Rattle.block.proofs.Blocks.{bad-here, good-here}
 use Rattle.regions.specs.Runs.{runAt}
-use Rattle.search.specs.declared.Query.{Query}
+use Rattle.runs.specs.declared.Query.{Query}
 use Rattle.search.specs.declared.find.Asked.{Asked}
 use Rattle.search.specs.declared.find.Asked.the-variants.{Refused, Fine}
 use Rattle.regions.specs.declared.Run.{Run}
-use Rattle.search.specs.declared.fit.Place.{Place}
-use Rattle.search.specs.declared.fit.Place.the-variants.{Here, Nowhere}
+use Rattle.runs.specs.declared.fit.Place.{Place}
+use Rattle.runs.specs.declared.fit.Place.the-variants.{Here, Nowhere}
 use Rattle.search.specs.Search.{window, runsOf, found, lowestFree}
 use Rattle.search.specs.Answers.{Answer, answer, refuse, slipOf, nodeKnown, asking, find, findAnswer, nextFree, nextFreeAnswer}
-use Rattle.search.specs.Steps.{hitOf, placeOf, Ready, foundHit, nextQuery, nextHit, checked}
-use Rattle.tables.specs.Steps.{Vacant}
-use Rattle.search.proofs.Eligible.{eligible-below, eligible-vacant, found-eligible}
+use Rattle.runs.specs.Steps.{hitOf, placeOf}
+use Rattle.search.specs.Steps.{Ready, foundHit, nextQuery, nextHit, checked}
+use Rattle.change.specs.Steps.{Vacant}
+use Rattle.search.proofs.Found.{eligible-below, eligible-vacant, found-eligible}
 
 -- ---- the checks
 

@@ -16,17 +16,19 @@ use Rattle.regions.specs.declared.Region.{Region}
 use Rattle.regions.specs.Meaning.{top, top-is}
 use Rattle.regions.specs.Bytes.{readRegions}
 use Rattle.regions.proofs.Records.{read-regions-length}
-use Rattle.tables.specs.declared.block.Layout.{Layout}
-use Rattle.tables.specs.declared.block.Header.{Header}
-use Rattle.tables.specs.Block.{current, capacity, offset, Contents, readHeader, part, contents, good}
-use Rattle.tables.proofs.Blocks.{room, lists-ok, good-contents, good-length}
+use Rattle.block.specs.declared.Layout.{Layout}
+use Rattle.block.specs.declared.Header.{Header}
+use Rattle.block.specs.Block.{current, capacity, offset, Contents, readHeader, part, contents, good}
+use Rattle.block.proofs.Blocks.{room, lists-ok, good-contents, good-length}
 use Rattle.regions.specs.Runs.{inOne}
-use Rattle.search.specs.declared.Query.{Query}
-use Rattle.search.specs.declared.block.Parts.{Parts}
-use Rattle.search.specs.declared.fit.Place.{Place}
-use Rattle.search.specs.Search.{onNode, eligible, boundedEnd, window, windowEnd, runsOf, found, freeFrom, lowestFree}
-use Rattle.search.specs.Steps.{placeOf, Searchable, lowestIn, highestIn, Ready, partsOf, lowestOf, highestOf, foundHit, nextQuery, nextHit}
-use Rattle.search.proofs.Stretches.{lowest-agree}
+use Rattle.runs.specs.declared.Query.{Query}
+use Rattle.search.specs.declared.seek.Parts.{Parts}
+use Rattle.runs.specs.declared.fit.Place.{Place}
+use Rattle.runs.specs.Eligible.{onNode, eligible}
+use Rattle.search.specs.Search.{boundedEnd, window, windowEnd, runsOf, found, freeFrom, lowestFree}
+use Rattle.runs.specs.Steps.{placeOf, Searchable, lowestIn, highestIn}
+use Rattle.search.specs.Steps.{Ready, partsOf, lowestOf, highestOf, foundHit, nextQuery, nextHit}
+use Rattle.runs.proofs.Stretches.{lowest-agree}
 
 -- ---- the window
 

@@ -1,13 +1,5 @@
-pub mod Extremes
-pub mod Twins
-pub mod Stretches
-pub mod Fits
-pub mod Eligible
-pub mod Limit
-pub mod Fall
-pub mod Walks
-pub mod Window
-pub mod Steps
-pub mod InBlock
-pub mod Answering
 pub mod Allocating
+pub mod Answering
+pub mod Found
+pub mod InBlock
+pub mod Limit

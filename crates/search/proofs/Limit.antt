@@ -13,14 +13,16 @@ use Rattle.address.specs.Numbers.{powerOfTwo}
 use Rattle.regions.specs.declared.Region.{Region}
 use Rattle.regions.specs.declared.Kind.the-variants.{Taken}
 use Rattle.regions.specs.declared.Change.the-variants.{Fill}
-use Rattle.tables.specs.declared.block.Layout.{Layout}
-use Rattle.tables.specs.Block.{Contents, contents, good}
+use Rattle.block.specs.declared.Layout.{Layout}
+use Rattle.block.specs.Block.{Contents, contents, good}
 use Rattle.tables.specs.Commands.{Outcome, tag, changeRange}
 use Rattle.regions.specs.Runs.{inOne}
-use Rattle.search.specs.declared.Query.{Query}
-use Rattle.search.specs.Search.{asks, eligible, windowStart, window, runsOf, found}
+use Rattle.runs.specs.declared.Query.{Query}
+use Rattle.runs.specs.Eligible.{asks, eligible}
+use Rattle.search.specs.Search.{windowStart, window, runsOf, found}
 use Rattle.search.specs.Answers.{Answer, answer, refuse, slipOf, nodeKnown, asking, find, findAnswer, allocate, allocateAnswer}
-use Rattle.search.proofs.Eligible.{Lies, eligible-lies, lies-eligible, found-eligible}
+use Rattle.runs.proofs.Eligible.{Lies, eligible-lies, lies-eligible}
+use Rattle.search.proofs.Found.{found-eligible}
 
 -- what the window comes to for an address: from the start and from 4096 on, ending by the limit, and by the end where one is named
 pub record Offered (limit : ℕ) (q : Query) (runs : List Region) (a : ℕ) : Type 0 where

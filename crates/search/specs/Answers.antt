@@ -10,10 +10,10 @@ use Rattle.regions.specs.declared.Kind.the-variants.{Taken}
 use Rattle.regions.specs.declared.Change.the-variants.{Fill}
 use Rattle.regions.specs.Bytes.{bytes}
 use Rattle.regions.specs.Runs.{runAt}
-use Rattle.tables.specs.declared.block.Layout.{Layout}
-use Rattle.tables.specs.Block.{Contents, contents, good}
+use Rattle.block.specs.declared.Layout.{Layout}
+use Rattle.block.specs.Block.{Contents, contents, good}
 use Rattle.tables.specs.Commands.{Outcome, tag, changeRange}
-use Rattle.search.specs.declared.Query.{Query}
+use Rattle.runs.specs.declared.Query.{Query}
 use Rattle.search.specs.Search.{found, lowestFree, runsOf}
 
 -- the number, and every byte of the block and of the answer slip after the call

@@ -1,15 +1,15 @@
 // Allocate: looks for an address and goes on only when there is one; then it reserves the size found there.
-use crate::Query;
-use crate::block::find_in;
 use crate::find::Asked;
 use crate::find::check;
 use crate::find::clear_slip;
 use crate::find::put_slip;
-use crate::fit::Place;
+use crate::seek::find_in;
 use address::Address;
 use address::Size;
 use regions::Kind;
 use regions::Tag;
+use runs::Query;
+use runs::fit::Place;
 use tables::range::fill_range;
 ghost use mathlib.Core.Path.{_≡_};
 ghost use mathlib.Core.Bool.{true};
@@ -17,9 +17,9 @@ ghost use Prim.Native.Nat.{_+_, _<_, _≤_};
 ghost use lib.ListN.{replicate};
 ghost use Rattle.regions.specs.declared.Kind.the-variants.{Taken};
 ghost use Rattle.regions.specs.declared.Change.the-variants.{Fill};
-ghost use Rattle.tables.specs.Block.{current, contents, good};
+ghost use Rattle.block.specs.Block.{current, contents, good};
 ghost use Rattle.regions.specs.Meaning.{top};
-ghost use Rattle.tables.specs.Steps.{Vacant};
+ghost use Rattle.change.specs.Steps.{Vacant};
 ghost use Rattle.tables.specs.Commands.{tag, changeRange};
 ghost use Rattle.search.specs.Answers.{answer, reserved, allocate as allocateSpec};
 

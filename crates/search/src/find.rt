@@ -1,17 +1,17 @@
 // Find and next free on a lent block. Each answers document 01's number and writes a lent slip of 16 bytes; a refusal leaves it all zero.
-use crate::Query;
-use crate::block::find_in;
-use crate::block::next_in;
-use crate::block::next_query;
-use crate::fit::Place;
+use crate::seek::find_in;
+use crate::seek::next_in;
+use crate::seek::next_query;
 use address::Address;
+use block::block_good;
+use block::current_layout;
+use records::table::put_zeros;
 use regions::bytes::put_u64;
-use tables::block::block_good;
-use tables::block::current_layout;
-use tables::table::put_zeros;
+use runs::Query;
+use runs::fit::Place;
 ghost use mathlib.Core.Path.{_≡_};
 ghost use lib.ListN.{length, replicate};
-ghost use Rattle.tables.specs.Block.{current};
+ghost use Rattle.block.specs.Block.{current};
 ghost use Rattle.search.specs.Answers.{answer, slipOf, nodeKnown, find as findSpec, nextFree};
 ghost use Rattle.search.specs.Steps.{checked};
 

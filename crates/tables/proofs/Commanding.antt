@@ -10,10 +10,10 @@ use Rattle.regions.specs.declared.Tag.{Tag}
 use Rattle.regions.specs.declared.Change.the-variants.{Fill, Clear, Mark, Unmark}
 use Rattle.regions.specs.Lists.{legalTag}
 use Rattle.regions.specs.Trim.{trimmedList}
-use Rattle.tables.specs.declared.block.Layout.{Layout}
-use Rattle.tables.specs.Block.{current, withList, blockBytes, contents, good}
+use Rattle.block.specs.declared.Layout.{Layout}
+use Rattle.block.specs.Block.{current, withList, blockBytes, contents, good}
 use Rattle.tables.specs.Commands.{Outcome, outcome, unless, changeRange, tag, add, remove, mark, unmark, reserve, free, trim}
-use Rattle.tables.proofs.Blocks.{bad-here, good-here}
+use Rattle.block.proofs.Blocks.{bad-here, good-here}
 
 module _ (l : Layout) (is : l ≡ current) (b : List ℕ) (g : Bool) (q : g ≡ good l b) where
   pub range-bad : (o : Outcome) → not g ≡ true → outcome 1 b ≡ unless (good current b) 1 b o

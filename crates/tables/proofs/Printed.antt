@@ -21,10 +21,11 @@ use Rattle.regions.proofs.Good.{total-is-sizes}
 use Rattle.regions.specs.Steps.{stretch}
 use Rattle.regions.proofs.Twins.{walk, update}
 use Rattle.regions.proofs.Update.{update-shortest}
-use Rattle.tables.specs.Block.{current, capacity, offset, withList, freshContents, entryBytes, entriesBytes, settingsBytes, totalsBytes, headerBytes, blockBytes, goodTable, goodContents, good}
+use Rattle.block.specs.Block.{current, capacity, offset, withList, freshContents, entryBytes, entriesBytes, settingsBytes, totalsBytes, headerBytes, blockBytes, goodTable, goodContents, good}
 use Rattle.tables.specs.Commands.{outcome, tag, fresh, store, add}
-use Rattle.tables.proofs.Setting.{small-current, freshHeader, total-empty, fresh-spelled}
-use Rattle.tables.proofs.Reading.{Spellable, contents-spelled, good-spelled-block}
+use Rattle.block.proofs.Layouts.{small-current}
+use Rattle.tables.proofs.Setting.{freshHeader, total-empty, fresh-spelled}
+use Rattle.block.proofs.Reading.{Spellable, contents-spelled, good-spelled-block}
 
 -- the first 80 bytes of a fresh block; zeros follow
 abbrev pub freshPrinted : List ℕ

@@ -2,7 +2,7 @@
 use Prim.Native.Nat.{ℕ, _+_, _*_, _-_, _/_, _≤_, _<_}
 use mathlib.Core.Path.{_≡_, refl, sym, ap, _∙_}
 use mathlib.Core.Logic.{_⊎_, inl, inr}
-use mathlib.Core.Bool.{Bool, true, false, cond, _||_}
+use mathlib.Core.Bool.{Bool, true, false, cond}
 use mathlib.Core.List.{List, [], _∷_, _++_}
 use native.Mathlib.Omega.{arith}
 use lib.Dec.{leb, eqb}
@@ -16,7 +16,6 @@ use Rattle.address.proofs.Tests.{both}
 use Rattle.address.proofs.Powers.{power-some}
 use Rattle.regions.specs.declared.Kind.{Kind}
 use Rattle.regions.specs.declared.Kind.the-variants.{Memory, Taken}
-use Rattle.regions.specs.declared.Tag.{Tag}
 use Rattle.regions.specs.declared.Region.{Region}
 use Rattle.regions.specs.declared.Change.{Change}
 use Rattle.regions.specs.declared.Change.the-variants.{Fill, Clear, Mark, Unmark}
@@ -26,50 +25,30 @@ use Rattle.regions.specs.Changes.{change, after, cut, changed}
 use Rattle.regions.specs.Bytes.{readRegions, tableBytes}
 use Rattle.regions.specs.Steps.{Weighs}
 use Rattle.regions.proofs.Records.{read-regions-length}
-use Rattle.regions.proofs.Rises.{Canonical, Rises-rises}
+use Rattle.regions.proofs.Rises.{Canonical}
 use Rattle.regions.proofs.Good.{good-rises, good-legal}
 use Rattle.regions.proofs.Trim.{round-length, trim-rounds}
 use Rattle.regions.specs.Trim.{roundEach, trimmedList}
-use Rattle.tables.specs.declared.block.Header.{Header}
-use Rattle.tables.specs.declared.block.Tally.{Tally}
-use Rattle.tables.specs.declared.change.Edit.{Edit}
-use Rattle.tables.specs.declared.block.Layout.{Layout}
-use Rattle.tables.specs.declared.inplace.Changed.{Changed}
-use Rattle.tables.specs.declared.inplace.Changed.the-variants.{To, NoRoom}
+use Rattle.block.specs.declared.Header.{Header}
+use Rattle.records.specs.declared.table.Tally.{Tally}
+use Rattle.lists.specs.declared.Edit.{Edit}
+use Rattle.block.specs.declared.Layout.{Layout}
+use Rattle.change.specs.declared.inplace.Changed.{Changed}
+use Rattle.change.specs.declared.inplace.Changed.the-variants.{To, NoRoom}
 use Rattle.regions.proofs.Numbers.{Bytes}
-use Rattle.tables.proofs.Reading.{good-header}
-use Rattle.tables.proofs.Setting.{small-current}
-use Rattle.tables.specs.Block.{current, capacity, offset, listOf, withList, tally, headerBytes, headerOf, blockBytes, readHeader, part, contents, good}
-use Rattle.tables.specs.Checks.{tallyOf, withTally}
-use Rattle.tables.specs.Steps.{AllLight, AllTagged, Uniform, Known, Vacant, Table, Editable, Changeable, Whole, Stored, Trimmed, storedAnswer, storedBytes}
+use Rattle.block.proofs.Reading.{good-header}
+use Rattle.block.proofs.Layouts.{small-current}
+use Rattle.records.proofs.Tables.{good-table}
+use Rattle.block.specs.Block.{current, capacity, offset, listOf, withList, headerBytes, headerOf, blockBytes, readHeader, part, contents, good}
+use Rattle.records.specs.Totals.{tally}
+use Rattle.block.specs.Checks.{tallyOf, withTally}
+use Rattle.records.specs.Steps.{Table, Whole}
+use Rattle.change.specs.Steps.{AllTagged, Uniform, Vacant, Changeable, Stored, Trimmed, storedAnswer, storedBytes}
+use Rattle.tables.specs.Steps.{Known}
+use Rattle.lists.specs.Steps.{Editable}
 use Rattle.tables.specs.Commands.{outcome, store, tag, changeRange}
-use Rattle.tables.proofs.Blocks.{room, lists-ok, good-contents, part-zeros}
+use Rattle.block.proofs.Blocks.{room, lists-ok, good-contents, part-zeros}
 use Rattle.tables.proofs.Storing.{capacity-small, span-part, span-room, block-stored}
-
--- legal tags have few flags
-tag-light : (k : Kind) (t : Tag) → legalTag k t ≡ true → t .flags ≤ 7
-unfolding legalTag
-tag-light Memory t e = go (eqb (t .flags) 0) refl (both (eqb (t .flags) 0 || eqb (t .flags) 4) (leb (t .node) 63) e .0)
-  where
-    go : (b : Bool) → eqb (t .flags) 0 ≡ b → b || eqb (t .flags) 4 ≡ true → t .flags ≤ 7
-    go true f g = omega (arith, eqb-true (t .flags) 0 f)
-    go false f g = omega (arith, eqb-true (t .flags) 4 g)
-tag-light Taken t e = omega (arith, eqb-true (t .flags) 0 (both (eqb (t .flags) 0) (eqb (t .node) 0) e .0))
-
-legal-light : (k : Kind) (xs : List Region) → legal k xs ≡ true → AllLight xs
-unfolding legal
-legal-light k [] e = tt
-legal-light k (r ∷ rs) e =
-    let p = both (legalTag k (r .tag)) (legal k rs) e in
-    (tag-light k (r .tag) (p .0), legal-light k rs (p .1))
-
-pub good-table : (k : Kind) (n : ℕ) (l : List ℕ) → 24 * n ≤ length l → goodList k (readRegions n l) ≡ true → Table l n
-good-table k n l h g =
-    record {
-      room = h;
-      rising = Rises-rises (good-rises k (readRegions n l) g);
-      light = legal-light k (readRegions n l) (good-legal k (readRegions n l) g);
-    }
 
 -- a legal list of the taken table has one tag
 taken-tagged : (xs : List Region) → legal Taken xs ≡ true → AllTagged (tag 0 0) xs

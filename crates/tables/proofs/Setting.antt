@@ -5,7 +5,7 @@ use mathlib.Core.Bool.{Bool, true, false, not}
 use mathlib.Core.List.{List, [], _++_}
 use native.Mathlib.Omega.{arith}
 use lib.ListN.{length, take, drop, replicate, length-append, length-replicate, replicate-append-replicate}
-use lib.Seq.{sets, sets-eq, drop-at, length-take-le}
+use lib.Seq.{sets, drop-at, length-take-le}
 use borrow.Author.Tests.{eq-eqb, ne-eqb, le-leb, lt-leb}
 use Rattle.address.specs.declared.Address.{Address}
 use Rattle.regions.specs.Meaning.{at, total, top}
@@ -14,26 +14,14 @@ use Rattle.regions.proofs.Rises.{done}
 use Rattle.regions.proofs.Count.{sizes}
 use Rattle.regions.proofs.Good.{total-is-sizes}
 use Rattle.regions.proofs.Numbers.{Bytes}
-use Rattle.tables.specs.declared.block.Layout.{Layout}
-use Rattle.tables.specs.declared.block.Header.{Header}
-use Rattle.tables.specs.Block.{current, capacity, blockLength, freshContents, headerBytes, blockBytes, readHeader, good}
-use Rattle.tables.specs.Checks.{Small}
+use Rattle.block.specs.declared.Layout.{Layout}
+use Rattle.block.specs.declared.Header.{Header}
+use Rattle.block.specs.Block.{current, capacity, blockLength, freshContents, headerBytes, blockBytes, readHeader, good}
 use Rattle.tables.specs.Commands.{outcome, fresh, set}
-use Rattle.tables.proofs.Header.{header-length}
-use Rattle.tables.proofs.Blocks.{good-length, bad-here, good-here}
-use Rattle.tables.proofs.Reading.{good-header, good-tables}
-
-pub small-current : Small current
-small-current = record { memory = omega arith; taken = omega arith }
-
-pub small-layout : (l : Layout) → l ≡ current → Small l
-small-layout l e = rw e small-current
-
--- a header written over a block's first 80 bytes
-pub sets-header : (L : Layout) (h : Header) (b : List ℕ) → 80 ≤ length b → sets b 0 (headerBytes L h) ≡ headerBytes L h ++ drop 80 b
-sets-header L h b n =
-    let k : 0 + length (headerBytes L h) ≤ length b = omega (arith, header-length L h) in
-    sets-eq (headerBytes L h) b 0 k ∙ rw header-length
+use Rattle.block.proofs.Headers.{sets-header}
+use Rattle.block.proofs.Blocks.{good-length, bad-here, good-here}
+use Rattle.block.proofs.Reading.{good-header, good-tables}
+use Rattle.block.proofs.Layouts.{small-current}
 
 -- ---- fresh
 

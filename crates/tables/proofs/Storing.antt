@@ -1,10 +1,9 @@
 -- A table's list and its tally, put in the place of the old. Assumes nothing.
-use Prim.Native.Nat.{ℕ, _+_, _*_, _-_, _/_, _≤_, _<_}
+use Prim.Native.Nat.{ℕ, _+_, _*_, _-_, _/_, _≤_}
 use mathlib.Core.Path.{_≡_, refl, sym, ap, ap₂, _∙_}
 use mathlib.Core.Bool.{true}
-use mathlib.Core.List.{List, _∷_, _++_, append-assoc, append-nil}
+use mathlib.Core.List.{List, _++_, append-assoc, append-nil}
 use native.Mathlib.Omega.{arith}
-use native.Mathlib.Nat.{sub-zero}
 use lib.ListN.{length, take, drop, length-append, length-drop, drop-of-length-le}
 use lib.Seq.{sets, take-at, drop-at, drop-drop, length-take-le, take-add}
 use Rattle.address.specs.declared.Address.{Address}
@@ -12,85 +11,26 @@ use Rattle.address.specs.declared.CheckedAddress.{CheckedAddress}
 use Rattle.address.specs.declared.CheckedAddress.the-variants.{At, Outside}
 use Rattle.address.specs.declared.Size.{Size}
 use Rattle.address.specs.declared.CheckedSize.{CheckedSize}
-use Rattle.address.specs.Numbers.{address, size}
-use Rattle.address.proofs.Checked.{address-at, address-outside, size-of, size-outside}
+use Rattle.address.specs.Numbers.{address}
+use Rattle.address.proofs.Checked.{address-at, address-outside}
 use Rattle.regions.specs.declared.Kind.{Kind}
 use Rattle.regions.specs.declared.Kind.the-variants.{Memory, Taken}
 use Rattle.regions.specs.declared.Region.{Region}
-use Rattle.regions.specs.declared.State.the-variants.{Absent}
 use Rattle.regions.specs.Meaning.{at, total, top, top-is}
-use Rattle.regions.specs.Lists.{rises}
 use Rattle.regions.specs.Changes.{cut}
-use Rattle.regions.specs.Bytes.{readRegion, readRegions, tableBytes}
-use Rattle.regions.proofs.Rises.{rises-Rises}
-use Rattle.regions.proofs.Count.{sizes, total-le}
-use Rattle.regions.proofs.Good.{total-is-sizes}
+use Rattle.regions.specs.Bytes.{tableBytes}
 use Rattle.regions.proofs.Numbers.{Bytes}
-use Rattle.regions.proofs.Records.{read-regions-rest, read-regions-end}
-use Rattle.tables.specs.declared.block.Layout.{Layout}
-use Rattle.tables.specs.declared.block.Header.{Header}
-use Rattle.tables.specs.declared.block.Tally.{Tally}
-use Rattle.tables.specs.Block.{current, capacity, offset, blockLength, withList, tally, headerBytes, headerOf, blockBytes, readHeader, part, contents, good}
-use Rattle.tables.specs.Checks.{Small, withTally}
-use Rattle.tables.proofs.Blocks.{table-length, part-length, room, good-contents, good-length}
-use Rattle.tables.proofs.Reading.{good-header, good-tables}
-use Rattle.tables.proofs.Setting.{small-current, sets-header}
+use Rattle.block.specs.declared.Layout.{Layout}
+use Rattle.block.specs.declared.Header.{Header}
+use Rattle.records.specs.declared.table.Tally.{Tally}
+use Rattle.block.specs.Block.{current, capacity, offset, blockLength, withList, headerBytes, headerOf, blockBytes, readHeader, part, contents, good}
+use Rattle.records.specs.Totals.{tally}
+use Rattle.block.specs.Checks.{Small, withTally}
+use Rattle.block.proofs.Blocks.{table-length, part-length, room, good-contents, good-length}
+use Rattle.block.proofs.Reading.{good-header, good-tables}
+use Rattle.block.proofs.Layouts.{small-current}
+use Rattle.block.proofs.Headers.{sets-header}
 use Rattle.address.specs.declared.CheckedSize.the-variants as Size
-
--- ---- by the kind of table
-
-module _ (L : Layout) (k : Kind) where
-  pub memory-start : k ≡ Memory → 80 ≡ offset L k
-  unfolding offset
-  memory-start e = rw e
-
-  pub taken-start : k ≡ Taken → 80 + 24 * L .memory ≡ offset L k
-  unfolding offset
-  taken-start e = rw e
-
-  pub memory-capacity : k ≡ Memory → L .memory ≡ capacity L k
-  unfolding capacity
-  memory-capacity e = rw e
-
-  pub taken-capacity : k ≡ Taken → L .taken ≡ capacity L k
-  unfolding capacity
-  taken-capacity e = rw e
-
-module _ (h : Header) (k : Kind) (t : Tally) where
-  pub memory-tally : k ≡ Memory → record { memory = t; taken = h .taken; limit = h .limit; direction = h .direction } ≡ withTally h k t
-  memory-tally e = rw e
-
-  pub taken-tally : k ≡ Taken → record { memory = h .memory; taken = t; limit = h .limit; direction = h .direction } ≡ withTally h k t
-  taken-tally e = rw e
-
--- ---- a table's total
-
-module _ (l : List ℕ) (n : ℕ) (rising : rises 0 Absent top (readRegions n l) ≡ true) where
-  sizes-total : total (at (readRegions n l)) top ≡ sizes (readRegions n l)
-  sizes-total = total-is-sizes (readRegions n l) (rises-Rises 0 Absent top (readRegions n l) rising)
-
-  pub sum-start : 0 + sizes (readRegions (n - 0) (drop (24 * 0) l)) ≡ sizes (readRegions n l)
-  sum-start = rw sub-zero (omega arith)
-
-  module _ (i : ℕ) (sum : Size) (inv : sum .0 + sizes (readRegions (n - i) (drop (24 * i) l)) ≡ sizes (readRegions n l)) where
-    pub sum-end : n ≤ i → sum .0 ≡ total (at (readRegions n l)) top
-    unfolding sizes
-    sum-end h =
-        let z : sizes (readRegions (n - i) (drop (24 * i) l)) ≡ 0 = rw (read-regions-end i n (drop (24 * i) l) h) in
-        omega (arith, sizes-total)
-
-    module _ (r : Region) (h : i < n) (e : r ≡ readRegion (drop (24 * i) l)) (x : CheckedSize) (q : x ≡ size (sum .0 + r .size .0)) where
-      next : sum .0 + r .size .0 + sizes (readRegions (n - (i + 1)) (drop (24 * (i + 1)) l)) ≡ sizes (readRegions n l)
-      unfolding sizes
-      next =
-          let s : readRegions (n - i) (drop (24 * i) l) ≡ r ∷ readRegions (n - (i + 1)) (drop (24 * (i + 1)) l) = rw e (read-regions-rest i n l h) in
-          omega (arith, ap sizes s)
-
-      pub sum-past : x ≡ Size.Outside → sum .0 ≡ total (at (readRegions n l)) top
-      sum-past f = absurd (omega (arith, next, size-outside (sum .0 + r .size .0) x q f, sizes-total, total-le (at (readRegions n l)) top, top-is))
-
-      pub sum-next : (s : Size) → x ≡ Size.Of s → s .0 + sizes (readRegions (n - (i + 1)) (drop (24 * (i + 1)) l)) ≡ sizes (readRegions n l)
-      sum-next s f = omega (arith, next, size-of (sum .0 + r .size .0) x s q f .0)
 
 -- ---- a table of a block
 
@@ -137,9 +77,9 @@ module _ (L : Layout) (b : List ℕ) (g : good L b ≡ true) where
 
 module _ (L : Layout) (small : Small L) (b : List ℕ) (bs : Bytes b) (g : good L b ≡ true) where
   -- the header with the new list's tally
-  storedAnswer : (k : Kind) (xs : List Region) → withTally (readHeader b) k (tally xs) ≡ headerOf (withList (contents L b) k xs)
-  storedAnswer Memory xs = ap (λ (h : Header). withTally h Memory (tally xs)) (good-header L small b bs g)
-  storedAnswer Taken xs = ap (λ (h : Header). withTally h Taken (tally xs)) (good-header L small b bs g)
+  header-tallied : (k : Kind) (xs : List Region) → withTally (readHeader b) k (tally xs) ≡ headerOf (withList (contents L b) k xs)
+  header-tallied Memory xs = ap (λ (h : Header). withTally h Memory (tally xs)) (good-header L small b bs g)
+  header-tallied Taken xs = ap (λ (h : Header). withTally h Taken (tally xs)) (good-header L small b bs g)
 
   -- a table stored in its part, and the header written anew
   list-stored : (k : Kind) (xs : List Region) → length xs ≤ capacity L k → (h : Header) → h ≡ readHeader b → (t : Tally) → t ≡ tally xs → (y z : List ℕ)
@@ -148,7 +88,7 @@ module _ (L : Layout) (small : Small L) (b : List ℕ) (bs : Bytes b) (g : good 
   unfolding blockBytes
   list-stored k xs n h e t f y z p q =
       let r : 80 ≤ length y = rw p (stored-room L b g k (tableBytes (capacity L k) xs) (table-length (capacity L k) xs n)) in
-      let w : withTally h k t ≡ headerOf (withList (contents L b) k xs) = rw (e, f) (storedAnswer k xs) in
+      let w : withTally h k t ≡ headerOf (withList (contents L b) k xs) = rw (e, f) (header-tallied k xs) in
       q ∙ sets-header L (withTally h k t) y r
       ∙ ap₂ (λ (u v : List ℕ). u ++ v) (ap (headerBytes L) w) (ap (drop 80) p ∙ behind L b g k xs)
 

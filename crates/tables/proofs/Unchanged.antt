@@ -20,10 +20,10 @@ use Rattle.regions.specs.Changes.{change, after, cut, changed}
 use Rattle.regions.proofs.Count.{agree}
 use Rattle.regions.proofs.RoundTrip.{inside-hi, round-trip}
 use Rattle.regions.proofs.Good.{good-rises}
-use Rattle.tables.specs.declared.block.Layout.{Layout}
-use Rattle.tables.specs.Block.{capacity, Contents, listOf, withList, contents, good}
+use Rattle.block.specs.declared.Layout.{Layout}
+use Rattle.block.specs.Block.{capacity, Contents, listOf, withList, contents, good}
 use Rattle.tables.specs.Commands.{done, store, changeRange, free}
-use Rattle.tables.proofs.Blocks.{room, lists-ok, good-contents, good-spelled}
+use Rattle.block.proofs.Blocks.{room, lists-ok, good-contents, good-spelled}
 
 -- each address from base to the cut end of the range stands as the change leaves it
 abbrev pub Stays : Change → ℕ → ℕ → List Region → Type 0

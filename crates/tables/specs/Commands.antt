@@ -14,8 +14,8 @@ use Rattle.regions.specs.declared.Change.the-variants.{Fill, Clear, Mark, Unmar
 use Rattle.regions.specs.Lists.{legalTag}
 use Rattle.regions.specs.Changes.{changed}
 use Rattle.regions.specs.Trim.{trimmedList}
-use Rattle.tables.specs.declared.block.Layout.{Layout}
-use Rattle.tables.specs.Block.{blockLength, capacity, listOf, withList, freshContents, blockBytes, contents, good}
+use Rattle.block.specs.declared.Layout.{Layout}
+use Rattle.block.specs.Block.{blockLength, capacity, listOf, withList, freshContents, blockBytes, contents, good}
 
 -- the number that boot code gets back, and every byte of the block after the call
 pub record Outcome : Type 0 where

@@ -1,4 +1,2 @@
-pub mod Block
 pub mod Commands
-pub mod Checks
 pub mod Steps

@@ -1,15 +1,15 @@
 // The commands on a lent block. Each answers document 01's number; a refusal leaves the block as it was.
-use crate::block::Header;
-use crate::block::Tally;
-use crate::block::block_good;
-use crate::block::current_layout;
-use crate::block::get_header;
-use crate::block::put_header;
 use crate::range::change_range;
 use crate::range::trim_memory;
-use crate::table::put_zeros;
 use address::Address;
 use address::Size;
+use block::Header;
+use block::block_good;
+use block::current_layout;
+use block::get_header;
+use block::put_header;
+use records::table::Tally;
+use records::table::put_zeros;
 use regions::Change;
 use regions::Kind;
 use regions::Tag;
@@ -19,7 +19,7 @@ ghost use lib.ListN.{length};
 ghost use Rattle.address.specs.Numbers.{powerOfTwo};
 ghost use Rattle.regions.specs.declared.Kind.the-variants.{Memory};
 ghost use Rattle.regions.specs.Lists.{legalTag};
-ghost use Rattle.tables.specs.Block.{current, good};
+ghost use Rattle.block.specs.Block.{current, good};
 ghost use Rattle.tables.specs.Commands.{outcome, unless, changeRange, fresh as freshOutcome, set as setOutcome, add as addOutcome, remove as removeOutcome, mark as markOutcome, unmark as unmarkOutcome, reserve as reserveOutcome, free as freeOutcome, trim as trimOutcome};
 ghost use Rattle.tables.specs.Steps.{Known};
 

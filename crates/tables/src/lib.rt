@@ -1,10 +1,3 @@
-// The block that boot code lends: two tables of regions under a header, and the commands on them.
-pub mod block;
-pub mod change;
+// The commands on the tables of a block.
 pub mod commands;
-pub mod gap;
-pub mod inplace;
-pub mod moves;
 pub mod range;
-pub mod table;
-pub mod trim;

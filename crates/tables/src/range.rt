@@ -1,15 +1,15 @@
 // One way to change a range of a table of a good block, over the change and the table.
-use crate::block::current_layout;
-use crate::block::get_header;
-use crate::block::put_header;
-use crate::change::Edit;
-use crate::gap::change_table;
-use crate::gap::fill_table;
-use crate::inplace::Changed;
-use crate::trim::trim_table;
 use address::Address;
 use address::CheckedAddress;
 use address::Size;
+use block::current_layout;
+use block::get_header;
+use block::put_header;
+use change::gap::change_table;
+use change::gap::fill_table;
+use change::inplace::Changed;
+use change::trim::trim_table;
+use lists::Edit;
 use regions::Change;
 use regions::Kind;
 use regions::Tag;
@@ -22,8 +22,9 @@ ghost use Rattle.regions.specs.Meaning.{top};
 ghost use Rattle.address.specs.Numbers.{powerOfTwo};
 ghost use Rattle.regions.specs.Trim.{trimmedList};
 ghost use Rattle.regions.specs.Changes.{cut};
-ghost use Rattle.tables.specs.Steps.{Known, Vacant};
-ghost use Rattle.tables.specs.Block.{current, offset, capacity, listOf, withList, blockBytes, contents, good};
+ghost use Rattle.change.specs.Steps.{Vacant};
+ghost use Rattle.tables.specs.Steps.{Known};
+ghost use Rattle.block.specs.Block.{current, offset, capacity, listOf, withList, blockBytes, contents, good};
 ghost use Rattle.tables.specs.Commands.{outcome, changeRange};
 
 // Where the records of a table stand in a block.

@@ -11,8 +11,6 @@ use std::time::Duration;
 
 /// Bytes before and after every lent buffer that must stay as they are.
 const GUARD: usize = 64;
-/// A call that takes longer than this counts as one that never ends.
-const PATIENCE: u64 = 10;
 /// The numbers that may be answered are below this.
 const NUMBERS: usize = 11;
 
@@ -65,25 +63,30 @@ extern "C" fn stopped(number: i32) {
     unsafe { _exit(1) }
 }
 
-/// Reports a call that stops the program or never ends.
-pub fn watch() {
+/// Reports a call that stops the program, or that takes longer than `patience`
+/// seconds and so counts as one that never ends.
+pub fn watch(patience: u64) {
     // ILL, TRAP, ABRT, BUS, FPE, SEGV
     for number in [4, 5, 6, 7, 8, 11] {
         unsafe { signal(number, stopped as extern "C" fn(i32) as usize) };
     }
-    std::thread::spawn(|| {
+    std::thread::spawn(move || {
         let mut last = u64::MAX;
+        // Naps are counted, not time: a program that is held up takes none.
+        let mut naps = 0;
         loop {
-            std::thread::sleep(Duration::from_secs(PATIENCE));
+            std::thread::sleep(Duration::from_millis(100));
             let done = DONE.load(Ordering::Relaxed);
-            let now = NOW.lock().expect("never poisoned");
-            if let (true, Some(place)) = (done == last, &*now) {
-                eprintln!("DIFFERENCE: no answer within {PATIENCE} seconds");
+            naps = if done == last { naps + 1 } else { 0 };
+            last = done;
+            if naps < 10 * patience {
+                continue;
+            }
+            if let Some(place) = &*NOW.lock().expect("never poisoned") {
+                eprintln!("DIFFERENCE: no answer within {patience} seconds");
                 eprintln!("{}", place.text());
                 unsafe { _exit(1) };
             }
-            drop(now);
-            last = done;
         }
     });
 }

@@ -26,21 +26,24 @@ const CALLS_PER_PAIR: u64 = 50;
 /// One pair of orders of a report is asked for in this many calls of their part.
 const CALLS_PER_REPORT_PAIR: u64 = 5;
 
+/// In the order of a whole run: what finds most in few calls comes first.
 const PARTS: [&str; 8] = [
-    "cases", "lists", "orders", "lengths", "damage", "faults", "fills", "walks",
+    "cases", "faults", "lengths", "damage", "fills", "lists", "orders", "walks",
 ];
 
 struct Options {
     seed: u64,
     calls: u64,
     all: bool,
-    parts: Vec<String>,
+    /// In the order they are run in.
+    parts: Vec<&'static str>,
     without_model: bool,
+    patience: u64,
 }
 
 impl Options {
     fn whole(&self) -> bool {
-        self.parts.len() == PARTS.len() && !self.without_model
+        self.parts == PARTS && !self.without_model
     }
 
     /// The calls for a part that gets this many of 100 in a whole run.
@@ -58,8 +61,9 @@ fn options() -> Result<Options, String> {
         seed: 1,
         calls: 1_000_000,
         all: std::env::var_os("MEMBLOCK_ALL").is_some_and(|v| !v.is_empty() && v != "0"),
-        parts: PARTS.map(String::from).to_vec(),
+        parts: PARTS.to_vec(),
         without_model: false,
+        patience: 10,
     };
     let mut args = std::env::args().skip(1);
     while let Some(arg) = args.next() {
@@ -70,16 +74,23 @@ fn options() -> Result<Options, String> {
             "--calls" => options.calls = number(value()?)?,
             "--all" => options.all = true,
             "--parts" => {
-                options.parts = value()?.split(',').map(String::from).collect();
-                options.parts.dedup();
-                if let Some(odd) = options.parts.iter().find(|p| !PARTS.contains(&p.as_str())) {
-                    return Err(format!("{odd} is no part; parts are {}", PARTS.join(",")));
+                options.parts.clear();
+                for name in value()?.split(',') {
+                    match PARTS.into_iter().find(|part| *part == name) {
+                        Some(part) if !options.parts.contains(&part) => options.parts.push(part),
+                        Some(_) => return Err(format!("{name} is named twice")),
+                        None => {
+                            return Err(format!("{name} is no part; parts are {}", PARTS.join(",")))
+                        }
+                    }
                 }
             }
             "--without-model" => options.without_model = true,
+            "--patience" => options.patience = number(value()?)?,
             _ => {
                 return Err(format!(
-                    "{arg}: use --seed N, --calls N, --all, --parts A,B, --without-model"
+                    "{arg}: use --seed N, --calls N, --all, --parts A,B, --without-model, \
+                     --patience SECONDS"
                 ))
             }
         }
@@ -108,13 +119,10 @@ fn main() {
             stop("all functions were asked for");
         }
     }
-    desk::watch();
+    desk::watch(options.patience);
     let desk = &mut Desk::new(options.seed);
     desk.without_model = options.without_model;
-    for part in PARTS {
-        if !options.parts.iter().any(|chosen| chosen == part) {
-            continue;
-        }
+    for &part in &options.parts {
         desk.part = part;
         desk.turn = 0;
         match part {

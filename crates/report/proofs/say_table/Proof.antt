@@ -1,6 +1,6 @@
 -- `report::say_table` meets its contract.
-use Rattle.tables.specs.Block.{current}
-use Rattle.tables.proofs.Blocks.{good-length}
+use Rattle.block.specs.Block.{current}
+use Rattle.block.proofs.Blocks.{good-length}
 use Rattle.tables.proofs.Storing.{span-le}
 use Rattle.tables.proofs.Ranging.{range-table}
 use native.Mathlib.Omega.{arith}

@@ -1,6 +1,6 @@
 -- `intake::e820::intake` meets its contract.
 use Rattle.intake.proofs.Whole.{not-good, ragged, too-long, taken-in, block-length, is-good}
-use Rattle.tables.proofs.Setting.{small-layout}
+use Rattle.block.proofs.Layouts.{small-layout}
 use borrow.Author.Needs.{needs}
 use Rattle.intake.proofs.e820.intake.Statement.{statement}
 use Rattle.intake.proofs.e820.intake.Tie as tie

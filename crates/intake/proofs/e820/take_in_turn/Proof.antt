@@ -4,7 +4,7 @@ use lib.ListN.{length}
 use mathlib.Core.Path.{_≡_, refl}
 use mathlib.Core.Bool.{true}
 use Rattle.address.specs.Numbers.{powerBelow}
-use Rattle.tables.specs.Block.{current, good}
+use Rattle.block.specs.Block.{current, good}
 use Rattle.intake.specs.E820.{readEntries, entrySteps}
 use Rattle.intake.specs.Turns.{inTurn}
 use Rattle.intake.proofs.Turns.{Rest, entries-start, entries-refused, entries-next, entries-done}

@@ -1,5 +1,5 @@
 -- `search::allocate::allocate` meets its contract.
-use Rattle.search.specs.declared.fit.Place.the-variants.{Here, Nowhere}
+use Rattle.runs.specs.declared.fit.Place.the-variants.{Here, Nowhere}
 use Rattle.search.specs.declared.find.Asked.the-variants.{Fine}
 use mathlib.Core.Path.{_≡_}
 use Rattle.search.proofs.Answering.{fine-ready, found-vacant}

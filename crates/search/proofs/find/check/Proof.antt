@@ -1,6 +1,6 @@
 -- `search::find::check` meets its contract.
 use Rattle.search.proofs.Answering.{check-bad, check-node, check-power, check-size, check-fine}
-use Rattle.tables.proofs.Setting.{small-layout}
+use Rattle.block.proofs.Layouts.{small-layout}
 use borrow.Author.Needs.{needs}
 use Rattle.search.proofs.find.check.Statement.{statement}
 use Rattle.search.proofs.find.check.Tie as tie

@@ -1,7 +1,7 @@
 -- `tables::commands::add` meets its contract.
-use Rattle.tables.proofs.Blocks.{good-here}
+use Rattle.block.proofs.Blocks.{good-here}
 use Rattle.tables.proofs.Commanding.{add-bad, add-tag, tag-legal}
-use Rattle.tables.proofs.Setting.{small-layout}
+use Rattle.block.proofs.Layouts.{small-layout}
 use borrow.Author.Needs.{needs}
 use Rattle.tables.proofs.commands.add.Statement.{statement}
 -- `tables::commands::add` meets its contract.

@@ -1,5 +1,6 @@
 -- `tables::commands::fresh` meets its contract.
-use Rattle.tables.proofs.Setting.{small-layout, fresh-refused, fresh-done}
+use Rattle.block.proofs.Layouts.{small-layout}
+use Rattle.tables.proofs.Setting.{fresh-refused, fresh-done}
 use borrow.Author.Needs.{needs}
 use Rattle.tables.proofs.commands.fresh.Statement.{statement}
 use Rattle.tables.proofs.commands.fresh.Tie as tie

@@ -1,7 +1,7 @@
 -- `tables::commands::on_range` meets its contract.
-use Rattle.tables.proofs.Blocks.{good-here}
+use Rattle.block.proofs.Blocks.{good-here}
 use Rattle.tables.proofs.Commanding.{range-bad, range-good}
-use Rattle.tables.proofs.Setting.{small-layout}
+use Rattle.block.proofs.Layouts.{small-layout}
 use borrow.Author.Needs.{needs}
 use Rattle.tables.proofs.commands.on_range.Statement.{statement}
 -- `tables::commands::on_range` meets its contract.

@@ -1,6 +1,7 @@
 -- `tables::commands::set` meets its contract.
 use Rattle.regions.proofs.Numbers.{bytes-all}
-use Rattle.tables.proofs.Setting.{small-layout, set-bad, set-direction, set-room, set-done}
+use Rattle.block.proofs.Layouts.{small-layout}
+use Rattle.tables.proofs.Setting.{set-bad, set-direction, set-room, set-done}
 use borrow.Author.Needs.{needs}
 use Rattle.tables.proofs.commands.set.Statement.{statement}
 use Rattle.tables.proofs.commands.set.Tie as tie

@@ -1,7 +1,7 @@
 -- `tables::commands::trim` meets its contract.
-use Rattle.tables.proofs.Blocks.{good-here}
+use Rattle.block.proofs.Blocks.{good-here}
 use Rattle.tables.proofs.Commanding.{trim-bad, trim-power, power-right}
-use Rattle.tables.proofs.Setting.{small-layout}
+use Rattle.block.proofs.Layouts.{small-layout}
 use borrow.Author.Needs.{needs}
 use Rattle.tables.proofs.commands.trim.Statement.{statement}
 use Rattle.tables.proofs.commands.trim.Tie as tie

@@ -2,10 +2,10 @@
 use mathlib.Core.Path.{_≡_}
 use native.Mathlib.Omega.{arith}
 use Rattle.regions.proofs.Numbers.{bytes-all}
-use Rattle.tables.specs.Block.{current}
-use Rattle.tables.specs.declared.inplace.Changed.the-variants.{To, NoRoom}
-use Rattle.tables.proofs.Blocks.{good-length}
-use Rattle.tables.proofs.Setting.{small-layout}
+use Rattle.block.specs.Block.{current}
+use Rattle.change.specs.declared.inplace.Changed.the-variants.{To, NoRoom}
+use Rattle.block.proofs.Blocks.{good-length}
+use Rattle.block.proofs.Layouts.{small-layout}
 use Rattle.tables.proofs.Storing.{span-le}
 use Rattle.tables.proofs.Ranging.{range-whole, range-vacant, range-full, range-done}
 use borrow.Author.Needs.{needs}

@@ -1,6 +1,6 @@
 -- `tables::range::table_span` meets its contract.
 use Rattle.tables.proofs.Storing.{start-bound, capacity-now, start-now, span-end}
-use Rattle.tables.proofs.Setting.{small-layout}
+use Rattle.block.proofs.Layouts.{small-layout}
 use native.Mathlib.Omega.{arith}
 use borrow.Author.Needs.{needs}
 use Rattle.tables.proofs.range.table_span.Statement.{statement}

@@ -2,9 +2,9 @@
 use native.Mathlib.Omega.{arith}
 use Rattle.regions.specs.declared.Kind.the-variants.{Memory}
 use Rattle.regions.proofs.Numbers.{bytes-all}
-use Rattle.tables.specs.Block.{current}
-use Rattle.tables.proofs.Blocks.{good-length}
-use Rattle.tables.proofs.Setting.{small-layout}
+use Rattle.block.specs.Block.{current}
+use Rattle.block.proofs.Blocks.{good-length}
+use Rattle.block.proofs.Layouts.{small-layout}
 use Rattle.tables.proofs.Storing.{span-le}
 use Rattle.tables.proofs.Ranging.{range-whole, trim-done}
 use borrow.Author.Needs.{needs}

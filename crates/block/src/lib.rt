@@ -1,0 +1,239 @@
+// The block: a header of 80 bytes, the memory table, the taken table.
+use address::Address;
+use address::Size;
+use records::table::Checked;
+use records::table::Tally;
+use records::table::check_table;
+use regions::Kind;
+use regions::bytes::get_u32;
+use regions::bytes::get_u64;
+use regions::bytes::put_u32;
+use regions::bytes::put_u64;
+ghost use mathlib.Core.Path.{_≡_};
+ghost use Prim.Native.Nat.{_+_, _*_, _<_, _≤_};
+ghost use lib.ListN.{length, take, drop};
+ghost use lib.Seq.{sets};
+ghost use Rattle.block.specs.Block.{current, capacity as capacityOf, offset, entryBytes, entriesBytes, settingsBytes, totalsBytes, headerBytes, readHeader, sameBytes, good};
+ghost use Rattle.block.specs.Checks.{Small, withTotals, tallyOf, withTally};
+
+// Which edition, and how many records each table has room for.
+pub struct Layout {
+    pub edition: u32,
+    pub memory: u32,
+    pub taken: u32,
+}
+
+// What the header says beside the layout.
+pub struct Header {
+    pub memory: Tally,
+    pub taken: Tally,
+    pub limit: Address,
+    pub direction: u32,
+}
+
+impl Header {
+    // A table's count and total.
+    pub fn tally(self, kind: Kind) -> Tally
+        ensures { λ r. ⌜ r ≡ tallyOf self kind ⌝ }
+    {
+        let memory = self.memory;
+        let taken = self.taken;
+        match kind {
+            Kind::Memory => memory,
+            Kind::Taken => taken,
+        }
+    }
+
+    // The header with another count and total for a table.
+    pub fn with_tally(self, kind: Kind, tally: Tally) -> Header
+        ensures { λ r. ⌜ r ≡ withTally self kind tally ⌝ }
+    {
+        let memory = self.memory;
+        let taken = self.taken;
+        let limit = self.limit;
+        match kind {
+            Kind::Memory => Header {
+                memory: tally,
+                taken,
+                limit,
+                direction: self.direction,
+            },
+            Kind::Taken => Header {
+                memory,
+                taken: tally,
+                limit,
+                direction: self.direction,
+            },
+        }
+    }
+}
+
+impl Layout {
+    // Where a table begins.
+    pub fn start(self, kind: Kind) -> usize
+        requires { ⌜ Small self ⌝ }
+        ensures { λ r. ⌜ r ≡ offset self kind ⌝ }
+    {
+        match kind {
+            Kind::Memory => 80,
+            Kind::Taken => 80 + 24 * (self.memory as usize),
+        }
+    }
+
+    // How many records a table has room for.
+    pub fn capacity(self, kind: Kind) -> usize
+        ensures { λ r. ⌜ r ≡ capacityOf self kind ⌝ }
+    {
+        match kind {
+            Kind::Memory => self.memory as usize,
+            Kind::Taken => self.taken as usize,
+        }
+    }
+}
+
+// The layout that the commands work on: edition 1.
+pub fn current_layout() -> Layout
+    ensures { λ r. ⌜ r ≡ current ⌝ }
+{
+    Layout {
+        edition: 1,
+        memory: 128,
+        taken: 128,
+    }
+}
+
+// A table's entry in the header.
+fn put_entry(s: &mut [u8], at: usize, kind: u32, offset: u32, count: u32, capacity: u32)
+    requires { ⌜ at + 16 ≤ length (now s) ⌝ }
+    ensures { λ _. ⌜ now (s .exit) ≡ sets (now (s .entry)) at (entryBytes kind offset count capacity) ⌝ }
+{
+    put_u32(s, at, kind);
+    put_u32(s, at + 4, offset);
+    put_u32(s, at + 8, count);
+    put_u32(s, at + 12, capacity);
+}
+
+fn put_settings(s: &mut [u8], limit: Address, direction: u32)
+    requires { ⌜ 56 ≤ length (now s) ⌝ }
+    ensures { λ _. ⌜ now (s .exit) ≡ sets (now (s .entry)) 40 (settingsBytes (limit .0) direction) ⌝ }
+{
+    put_u64(s, 40, limit.0);
+    put_u32(s, 48, direction);
+    put_u32(s, 52, 0);
+}
+
+fn put_totals(s: &mut [u8], memory: Size, taken: Size)
+    requires { ⌜ 80 ≤ length (now s) ⌝ }
+    ensures { λ _. ⌜ now (s .exit) ≡ sets (now (s .entry)) 56 (totalsBytes (memory .0) (taken .0)) ⌝ }
+{
+    put_u64(s, 56, memory.0);
+    put_u64(s, 64, taken.0);
+    put_u64(s, 72, 0);
+}
+
+// Edition, number of bodies and both entries.
+fn put_entries(s: &mut [u8], layout: Layout, memory: u32, taken: u32)
+    requires { ⌜ (40 ≤ length (now s)) × Small layout ⌝ }
+    ensures { λ _. ⌜ now (s .exit) ≡ sets (now (s .entry)) 0 (entriesBytes layout memory taken) ⌝ }
+{
+    put_u32(s, 0, layout.edition);
+    put_u32(s, 4, 2);
+    put_entry(s, 8, 1, 80, memory, layout.memory);
+    put_entry(s, 24, 2, 80 + 24 * layout.memory, taken, layout.taken);
+}
+
+// Writes the whole header.
+pub fn put_header(s: &mut [u8], layout: Layout, h: Header)
+    requires { ⌜ (80 ≤ length (now s)) × Small layout ⌝ }
+    ensures { λ _. ⌜ now (s .exit) ≡ sets (now (s .entry)) 0 (headerBytes layout h) ⌝ }
+{
+    let limit = h.limit;
+    let memory = h.memory;
+    let taken = h.taken;
+    put_entries(s, layout, memory.count, taken.count);
+    put_settings(s, limit, h.direction);
+    put_totals(s, memory.total, taken.total);
+}
+
+// What the header's fields hold, right or not.
+pub fn get_header(b: &[u8]) -> Header
+    requires { ⌜ 80 ≤ length (now b) ⌝ }
+    ensures { λ r. ⌜ r ≡ readHeader (now (b .entry)) ⌝ }
+{
+    Header {
+        memory: Tally {
+            count: get_u32(b, 16),
+            total: Size(get_u64(b, 56)),
+        },
+        taken: Tally {
+            count: get_u32(b, 32),
+            total: Size(get_u64(b, 64)),
+        },
+        limit: Address(get_u64(b, 40)),
+        direction: get_u32(b, 48),
+    }
+}
+
+// Whether two headers hold the same bytes, eight at a time.
+fn same_header(a: &[u8], b: &[u8]) -> bool
+    requires { ⌜ (length (now a) ≡ 80) × (length (now b) ≡ 80) ⌝ }
+    ensures { λ r. ⌜ r ≡ sameBytes (now (a .entry)) (now (b .entry)) ⌝ }
+{
+    let mut i = 0;
+    while i < 10 {
+        if get_u64(a, 8 * i) != get_u64(b, 8 * i) {
+            return false;
+        }
+        i += 1;
+    }
+    true
+}
+
+// Whether the header is the spelling of what it says, with these totals.
+fn header_right(b: &[u8], layout: Layout, memory: Size, taken: Size) -> bool
+    requires { ⌜ (80 ≤ length (now b)) × Small layout ⌝ }
+    ensures { λ r. ⌜ r ≡ sameBytes (take 80 (now (b .entry))) (headerBytes layout (withTotals (readHeader (now (b .entry))) memory taken)) ⌝ }
+{
+    let own = get_header(b);
+    let limit = own.limit;
+    let right = Header {
+        memory: Tally {
+            count: own.memory.count,
+            total: memory,
+        },
+        taken: Tally {
+            count: own.taken.count,
+            total: taken,
+        },
+        limit,
+        direction: own.direction,
+    };
+    let mut spelled = [0u8; 80];
+    put_header(&mut spelled, layout, right);
+    same_header(&b[0..80], &spelled)
+}
+
+// Whether the block is good.
+pub fn block_good(b: &[u8], layout: Layout) -> bool
+    requires { ⌜ Small layout ⌝ }
+    ensures { λ r. ⌜ r ≡ good layout (now (b .entry)) ⌝ }
+{
+    let middle = 80 + 24 * (layout.memory as usize);
+    let end = middle + 24 * (layout.taken as usize);
+    if b.len() != end {
+        return false;
+    }
+    let h = get_header(b);
+    if 1 < h.direction {
+        return false;
+    }
+    let Checked::Total(memory) = check_table(&b[80..middle], h.memory.count as usize, Kind::Memory)
+    else {
+        return false;
+    };
+    let Checked::Total(taken) = check_table(&b[middle..end], h.taken.count as usize, Kind::Taken)
+    else {
+        return false;
+    };
+    header_right(b, layout, memory, taken)
+}

@@ -1,0 +1,5 @@
+pub mod Filling
+pub mod Meeting
+pub mod Rebuilding
+pub mod Splicing
+pub mod Trimming

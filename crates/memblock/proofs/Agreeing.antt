@@ -1,0 +1,124 @@
+-- Where the commands that cover an address are all the same, it ends changed once, as document 01 says; where none does, as it was. Assumes nothing.
+use Prim.Native.Nat.{ℕ, _+_, _-_, _/_, _%_}
+use mathlib.Core.Path.{_≡_, refl, sym, ap, _∙_}
+use mathlib.Core.Bool.{Bool, true, false, cond}
+use mathlib.Core.List.{List, [], _∷_, List·Memᴰ, List·Memᴰ·head, List·Memᴰ·tail, List·Memᴰ·not-nil}
+use native.Mathlib.Omega.{arith}
+use borrow.Author.Tests.{eq-eqb, ne-eqb, eqb-true, eqb-false}
+use Rattle.address.proofs.Tests.{clash}
+use Rattle.regions.specs.declared.Kind.{Kind}
+use Rattle.regions.specs.declared.State.{State}
+use Rattle.regions.specs.declared.State.the-variants.{Absent, Present}
+use Rattle.regions.specs.Lists.{legalTag}
+use Rattle.regions.specs.Changes.{has, setFlag, clearFlag, change}
+use Rattle.regions.proofs.Push.{same-true}
+use Rattle.regions.proofs.Legal.{legalState}
+use Rattle.tables.specs.Commands.{tag}
+use Rattle.memblock.specs.Calls.{Verb, adds, removes, marks, unmarks, reserves, frees, Command}
+use Rattle.memblock.specs.Lists.{table, says}
+use Rattle.memblock.proofs.Steps.{changeOf, works, made}
+
+-- ---- a command made twice is made once
+
+set-twice : (f : ℕ) → setFlag 4 (setFlag 4 f) ≡ setFlag 4 f
+set-twice f = go (has 4 f) refl
+  where
+    go : (b : Bool) → has 4 f ≡ b → setFlag 4 (cond b f (f + 4)) ≡ cond b f (f + 4)
+    go true e = rw e
+    go false e =
+        let n = eqb-false (f / 4 % 2) 1 e in
+        let h : (f + 4) / 4 % 2 ≡ 1 = omega arith in
+        rw (eq-eqb ((f + 4) / 4 % 2) 1 h)
+
+clear-twice : (f : ℕ) → clearFlag 4 (clearFlag 4 f) ≡ clearFlag 4 f
+clear-twice f = go (has 4 f) refl
+  where
+    go : (b : Bool) → has 4 f ≡ b → clearFlag 4 (cond b (f - 4) f) ≡ cond b (f - 4) f
+    go true e =
+        let n = eqb-true (f / 4 % 2) 1 e in
+        rw (ne-eqb ((f - 4) / 4 % 2) 1 (λ z. omega arith))
+    go false e = rw e
+
+change-twice : (w : Verb) (v : State) → change (changeOf w) (change (changeOf w) v) ≡ change (changeOf w) v
+unfolding change
+change-twice (adds t) Absent = refl
+change-twice (adds t) (Present u) = refl
+change-twice removes v = refl
+change-twice marks Absent = refl
+change-twice marks (Present t) = rw set-twice
+change-twice unmarks Absent = refl
+change-twice unmarks (Present t) = rw clear-twice
+change-twice reserves Absent = refl
+change-twice reserves (Present u) = refl
+change-twice frees v = refl
+
+-- what a command makes of a legal state is what document 01 says: in the taken table every tag is 0, 0, so reserve gives that tag
+pub change-says : (w : Verb) (v : State) → legalState (table w) v ≡ true → change (changeOf w) v ≡ says w v
+unfolding change says legalTag
+change-says (adds t) Absent e = refl
+change-says (adds t) (Present u) e = refl
+change-says removes v e = refl
+change-says marks Absent e = refl
+change-says marks (Present t) e = refl
+change-says unmarks Absent e = refl
+change-says unmarks (Present t) e = refl
+change-says reserves Absent e = refl
+change-says reserves (Present u) e = ap Present (same-true u (tag 0 0) e)
+change-says frees v e = refl
+
+-- ---- a list of commands at one address
+
+-- the commands in order, at the address a of the table k that stood as v
+unfoldable pub through : List Command → Kind → ℕ → State → State
+through [] k a v = v
+through (d ∷ ds) k a v = through ds k a (made d k a v)
+
+module _ (k : Kind) (a : ℕ) where
+  made-in : (d : Command) (v : State) → works d k a ≡ true → made d k a v ≡ change (changeOf (d .verb)) v
+  unfolding made
+  made-in d v e = rw e
+
+  made-out : (d : Command) (v : State) → works d k a ≡ false → made d k a v ≡ v
+  unfolding made
+  made-out d v e = rw e
+
+  -- no command of the list works here
+  abbrev pub None : List Command → Type 0
+  None ds = (d : Command) → List·Memᴰ d ds → works d k a ≡ false
+
+  -- those that work here are all the command w
+  abbrev pub Only : Verb → List Command → Type 0
+  Only w ds = (d : Command) → List·Memᴰ d ds → works d k a ≡ true → d .verb ≡ w
+
+  pub through-none : (ds : List Command) (v : State) → None ds → through ds k a v ≡ v
+  unfolding through
+  through-none [] v o = refl
+  through-none (d ∷ ds) v o =
+      rw (made-out d v (o d (List·Memᴰ·head refl))) (through-none ds v (λ e m. o e (List·Memᴰ·tail m)))
+
+  -- what w leaves as it is stays so
+  settled : (w : Verb) (ds : List Command) (v : State) → Only w ds → change (changeOf w) v ≡ v → through ds k a v ≡ v
+  unfolding through
+  settled w [] v o h = refl
+  settled w (d ∷ ds) v o h = rw (go (works d k a) refl) (settled w ds v (λ e m. o e (List·Memᴰ·tail m)) h)
+    where
+      go : (b : Bool) → works d k a ≡ b → made d k a v ≡ v
+      go true e = made-in d v e ∙ ap (λ (x : Verb). change (changeOf x) v) (o d (List·Memᴰ·head refl) e) ∙ h
+      go false e = made-out d v e
+
+  pub through-only : (w : Verb) (ds : List Command) (v : State) → Only w ds → (d : Command) → List·Memᴰ d ds → works d k a ≡ true
+      → through ds k a v ≡ change (changeOf w) v
+  unfolding through
+  through-only w [] v o d m e = absurd (List·Memᴰ·not-nil m)
+  through-only w (x ∷ ds) v o d m e =
+      go (works x k a) refl m (λ n. through-only w ds v (λ y i. o y (List·Memᴰ·tail i)) d n e)
+      (λ u h. settled w ds u (λ y i. o y (List·Memᴰ·tail i)) h)
+    where
+      go : (b : Bool) → works x k a ≡ b → List·Memᴰ d (x ∷ ds) → (List·Memᴰ d ds → through ds k a v ≡ change (changeOf w) v)
+          → ((u : State) → change (changeOf w) u ≡ u → through ds k a u ≡ u)
+          → through ds k a (made x k a v) ≡ change (changeOf w) v
+      go true f n ih st =
+          let g : made x k a v ≡ change (changeOf w) v = made-in x v f ∙ ap (λ (y : Verb). change (changeOf y) v) (o x (List·Memᴰ·head refl) f) in
+          rw g (st (change (changeOf w) v) (change-twice w v))
+      go false f (List·Memᴰ·head p) ih st = absurd (clash (works x k a) (ap (λ (y : Command). works y k a) (sym p) ∙ e) f)
+      go false f (List·Memᴰ·tail n) ih st = rw (made-out x v f) (ih n)

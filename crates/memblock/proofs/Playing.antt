@@ -1,0 +1,261 @@
+-- Calls worked out on what a block says: an executable twin of the definitions, for calls that no check refuses. Assumes nothing.
+use Prim.Native.Nat.{ℕ, _+_, _≤_, _<_, min}
+use mathlib.Core.Path.{_≡_, refl, sym, ap, ap₂, _∙_}
+use mathlib.Core.Bool.{Bool, true, false, cond, not, _&&_}
+use mathlib.Core.List.{List, [], _∷_, map}
+use mathlib.Core.Option.{Option, none, some}
+use native.Mathlib.Omega.{arith}
+use lib.Dec.{leb, ltb, eqb}
+use lib.ListN.{length, replicate}
+use lib.Pow.{pow-pos}
+use borrow.Author.Tests.{leb-true, ltb-true, eqb-false, not-true}
+use Rattle.address.specs.Numbers.{powerOfTwo}
+use Rattle.address.proofs.Tests.{both}
+use Rattle.address.proofs.Powers.{power-is}
+use Rattle.regions.specs.declared.Kind.{Kind}
+use Rattle.regions.specs.declared.Kind.the-variants.{Memory, Taken}
+use Rattle.regions.specs.declared.Region.{Region}
+use Rattle.regions.specs.declared.State.the-variants.{Absent}
+use Rattle.regions.specs.declared.Change.{Change}
+use Rattle.regions.specs.declared.Change.the-variants.{Fill}
+use Rattle.regions.specs.Meaning.{top, top-is}
+use Rattle.regions.specs.Lists.{rises, legal, goodList}
+use Rattle.regions.specs.Changes.{change, cut, changed}
+use Rattle.regions.specs.Trim.{roundEach}
+use Rattle.regions.proofs.Rises.{Canonical}
+use Rattle.regions.proofs.Good.{good-rises}
+use Rattle.regions.proofs.Trim.{trim-rounds}
+use Rattle.regions.proofs.Twins.{update}
+use Rattle.regions.proofs.Update.{update-shortest}
+use Rattle.block.specs.Block.{current, capacity, Contents, listOf, withList, blockBytes, contents, goodTable, goodContents, good}
+use Rattle.tables.specs.Commands.{outcome, store, tag, changeRange, set, trim}
+use Rattle.block.proofs.Blocks.{lists-ok}
+use Rattle.block.proofs.Reading.{Spellable, contents-spelled, good-spelled-block}
+use Rattle.block.proofs.Layouts.{small-current}
+use Rattle.tables.proofs.Storing.{capacity-small}
+use Rattle.runs.specs.declared.Query.{Query}
+use Rattle.search.specs.Search.{window, found}
+use Rattle.search.specs.Answers.{Answer, answer, slipOf, nodeKnown, asking, find, findAnswer, allocate, allocateAnswer, reserved}
+use Rattle.regions.specs.declared.Run.{Run}
+use Rattle.runs.specs.Steps.{Hit, hitOf, lowestIn, highestIn}
+use Rattle.search.proofs.Found.{eligible-below, found-eligible}
+use Rattle.runs.proofs.Twins.{Up, Down, walk, falling}
+use Rattle.runs.proofs.Walks.{walk-lowest, walk-highest}
+use Rattle.memblock.specs.Calls.{Command, Call, toFresh, toSet, toCommand, toTrim, toFind, toNextFree, toAllocate, toIntake, answerOf, answers}
+use Rattle.memblock.specs.Lists.{table}
+use Rattle.memblock.proofs.Steps.{changeOf, legalVerb, outcome-is}
+
+-- ---- which contents can stand in a block, computed
+
+abbrev goodListed : Kind → List Region → Bool
+goodListed k xs = leb (length xs) 128 && (rises 0 Absent 18446744073709551615 xs && legal k xs)
+
+abbrev pub sound : Contents → Bool
+sound s = (leb (s .direction) 1 && (goodListed Memory (s .memory) && goodListed Taken (s .taken))) && ltb (s .limit) 18446744073709551616
+
+pub sound-spellable : (s : Contents) → sound s ≡ true → Spellable current s
+unfolding goodContents goodTable goodList capacity
+sound-spellable s e =
+    let p = both (leb (s .direction) 1 && (goodListed Memory (s .memory) && goodListed Taken (s .taken))) (ltb (s .limit) 18446744073709551616) e in
+    record { good = rw top-is (p .0); limit = ltb-true (s .limit) 18446744073709551616 (p .1) }
+
+-- ---- what a call makes of contents
+
+pub record Played : Type 0 where
+  pub number : ℕ
+  pub after : Contents
+  pub slip : List ℕ
+
+abbrev pub played : ℕ → Contents → List ℕ → Played
+played n s slip = record { number = n; after = s; slip = slip }
+
+-- a change over a range of a table
+abbrev edited : Contents → Kind → Change → ℕ → ℕ → List Region
+edited s k c base size = update (change c) base (min (base + size) 18446744073709551615) (listOf s k)
+
+abbrev kept : Contents → Kind → List Region → List ℕ → List ℕ → Played
+kept s k xs done full = cond (leb (length xs) 128) (played 0 (withList s k xs) done) (played 6 s full)
+
+-- what find finds
+abbrev hitAt : Option Hit → Option ℕ
+hitAt none = none
+hitAt (some h) = some (h .at)
+
+abbrev seek : Contents → Query → Option ℕ
+seek s q =
+    let w = window (s .limit) q in
+    cond (eqb (s .direction) 1) (hitAt (walk Up w (s .memory) (s .taken)))
+    (hitAt (walk Down w (falling (s .memory)) (falling (s .taken))))
+
+abbrev finds : Contents → Query → Option ℕ → Played
+finds s q none = played 5 s (replicate 16 0)
+finds s q (some a) = played 0 s (slipOf a (a + q .size .0))
+
+abbrev takes : Contents → Query → Option ℕ → Played
+takes s q none = played 5 s (replicate 16 0)
+takes s q (some a) = kept s Taken (edited s Taken (Fill (tag 0 0)) a (q .size .0)) (slipOf a (a + q .size .0)) (replicate 16 0)
+
+unfoldable pub play : Call → Contents → Played
+play toFresh s = played 0 s []
+play (toSet limit direction) s = played 0 (record { memory = s .memory; taken = s .taken; limit = limit; direction = direction }) []
+play (toCommand c) s = kept s (table (c .verb)) (edited s (table (c .verb)) (changeOf (c .verb)) (c .base) (c .size)) [] []
+play (toTrim align) s = played 0 (withList s Memory (roundEach align (s .memory))) []
+play (toFind q slip) s = finds s q (seek s q)
+play (toNextFree from node slip) s = played 0 s []
+play (toAllocate q slip) s = takes s q (seek s q)
+play (toIntake report) s = played 0 s []
+
+-- the call is one that this twin works out: no check refuses it
+abbrev asks : Query → List ℕ → Bool
+asks q slip = eqb (length slip) 16 && (nodeKnown (q .node) && (powerOfTwo (q .align .0) && not (eqb (q .size .0) 0)))
+
+unfoldable pub playable : Call → Bool
+playable toFresh = false
+playable (toSet limit direction) = leb direction 1
+playable (toCommand c) = legalVerb (c .verb) && leb (c .base) 18446744073709551615
+playable (toTrim align) = powerOfTwo align
+playable (toFind q slip) = asks q slip
+playable (toNextFree from node slip) = false
+playable (toAllocate q slip) = asks q slip
+playable (toIntake report) = false
+
+-- the answer that is played
+abbrev pub told : Played → Answer
+told p = answer (p .number) (blockBytes current (p .after)) (p .slip)
+
+module _ (s : Contents) (sp : Spellable current s) where
+  b : List ℕ
+  b = blockBytes current s
+
+  isGood : good current (blockBytes current s) ≡ true
+  isGood = good-spelled-block current small-current s sp
+
+  says : contents current (blockBytes current s) ≡ s
+  says = contents-spelled current small-current s sp
+
+  canonical : (k : Kind) → Canonical top (listOf s k)
+  canonical k = good-rises k (listOf s k) (lists-ok current s (sp .good) k)
+
+  edit-is : (k : Kind) (c : Change) (base size : ℕ) → base ≤ 18446744073709551615 → changed c base size (listOf s k) ≡ edited s k c base size
+  unfolding changed
+  edit-is k c base size h =
+      let e : cut base size ≡ min (base + size) 18446744073709551615 = omega (arith, top-is) in
+      rw e (sym (update-shortest (change c) base (min (base + size) 18446744073709551615) top (listOf s k) (omega arith) (omega (arith, top-is)) (canonical k)))
+
+  range-is : (k : Kind) (c : Change) (base size : ℕ) → base ≤ 18446744073709551615
+      → changeRange current k c base size (blockBytes current s)
+      ≡ cond (leb (length (edited s k c base size)) 128) (outcome 0 (blockBytes current (withList s k (edited s k c base size)))) (outcome 6 (blockBytes current s))
+  unfolding store
+  range-is k c base size h = rw (says, edit-is k c base size h, capacity-small k)
+
+  -- ---- what find finds, by the walks
+
+  hit-at : (e : ℕ → Run) (o : Option ℕ) → hitAt (hitOf e o) ≡ o
+  hit-at e none = refl
+  hit-at e (some a) = refl
+
+  seek-is : (q : Query) → 0 < q .size .0 → 0 < q .align .0 → found s q ≡ seek s q
+  unfolding found lowestIn highestIn
+  seek-is q i j =
+      let w : Query = window (s .limit) q in
+      rw (walk-lowest w (s .memory) (s .taken) i j (canonical Memory) (canonical Taken), walk-highest w (s .memory) (s .taken) i j (canonical Memory) (canonical Taken), hit-at, hit-at)
+
+  -- ---- the calls
+
+  set-played : (limit direction : ℕ) → leb direction 1 ≡ true → answerOf (toSet limit direction) (blockBytes current s) ≡ told (play (toSet limit direction) s)
+  unfolding answerOf play set
+  set-played limit direction e = rw (isGood, e, says)
+
+  command-played : (c : Command) → legalVerb (c .verb) ≡ true → c .base ≤ 18446744073709551615
+      → answerOf (toCommand c) (blockBytes current s) ≡ told (play (toCommand c) s)
+  unfolding answerOf play
+  command-played c e h =
+      rw (outcome-is (c .verb) (c .base) (c .size) (blockBytes current s), isGood, e, range-is (table (c .verb)) (changeOf (c .verb)) (c .base) (c .size) h)
+      (go (leb (length (edited s (table (c .verb)) (changeOf (c .verb)) (c .base) (c .size))) 128))
+    where
+      go : (t : Bool)
+          → answer (cond t (outcome 0 (blockBytes current (withList s (table (c .verb)) (edited s (table (c .verb)) (changeOf (c .verb)) (c .base) (c .size))))) (outcome 6 (blockBytes current s)) .number)
+          (cond t (outcome 0 (blockBytes current (withList s (table (c .verb)) (edited s (table (c .verb)) (changeOf (c .verb)) (c .base) (c .size))))) (outcome 6 (blockBytes current s)) .block) []
+          ≡ told (cond t (played 0 (withList s (table (c .verb)) (edited s (table (c .verb)) (changeOf (c .verb)) (c .base) (c .size))) []) (played 6 s []))
+      go true = refl
+      go false = refl
+
+  trim-played : (align : ℕ) → powerOfTwo align ≡ true → answerOf (toTrim align) (blockBytes current s) ≡ told (play (toTrim align) s)
+  unfolding answerOf play trim
+  trim-played align e =
+      let p = power-is 64 align e in
+      let h : 0 < align = omega (arith, pow-pos (p .0), p .2) in
+      rw (isGood, e, says, trim-rounds align (s .memory) h (canonical Memory))
+
+  asked-is : (q : Query) (slip : List ℕ) → asks q slip ≡ true → (a : Answer) → (asking current q (blockBytes current s) slip a ≡ a) × ((0 < q .size .0) × (0 < q .align .0))
+  asked-is q slip e a =
+      let n : Bool = not (eqb (q .size .0) 0) in
+      let p = both (eqb (length slip) 16) (nodeKnown (q .node) && (powerOfTwo (q .align .0) && n)) e in
+      let r = both (nodeKnown (q .node)) (powerOfTwo (q .align .0) && n) (p .1) in
+      let t = both (powerOfTwo (q .align .0)) n (r .1) in
+      let w = power-is 64 (q .align .0) (t .0) in
+      let z = eqb-false (q .size .0) 0 (not-true (eqb (q .size .0) 0) (t .1)) in
+      (rw (p .0, isGood, r .0, t .0, t .1), (omega arith, omega (arith, pow-pos (w .0), w .2)))
+
+  find-played : (q : Query) (slip : List ℕ) → asks q slip ≡ true → answerOf (toFind q slip) (blockBytes current s) ≡ told (play (toFind q slip) s)
+  unfolding answerOf play find
+  find-played q slip e =
+      let a : Answer = findAnswer (blockBytes current s) (q .size .0) (found (contents current (blockBytes current s)) q) in
+      let w = asked-is q slip e a in
+      w .0 ∙ rw (says, seek-is q (w .1 .0) (w .1 .1)) (go (seek s q))
+    where
+      go : (o : Option ℕ) → findAnswer (blockBytes current s) (q .size .0) o ≡ told (finds s q o)
+      go none = refl
+      go (some x) = refl
+
+  allocate-played : (q : Query) (slip : List ℕ) → asks q slip ≡ true → answerOf (toAllocate q slip) (blockBytes current s) ≡ told (play (toAllocate q slip) s)
+  unfolding answerOf play allocate
+  allocate-played q slip e =
+      let a : Answer = allocateAnswer current (blockBytes current s) (q .size .0) (found (contents current (blockBytes current s)) q) in
+      let w = asked-is q slip e a in
+      w .0 ∙ rw says (go (found s q) refl (w .1 .0) ∙ ap (λ (o : Option ℕ). told (takes s q o)) (seek-is q (w .1 .0) (w .1 .1)))
+    where
+      by : (x : ℕ) (t : Bool)
+          → reserved (blockBytes current s) x (q .size .0) (cond t (outcome 0 (blockBytes current (withList s Taken (edited s Taken (Fill (tag 0 0)) x (q .size .0))))) (outcome 6 (blockBytes current s)))
+          ≡ told (cond t (played 0 (withList s Taken (edited s Taken (Fill (tag 0 0)) x (q .size .0))) (slipOf x (x + q .size .0))) (played 6 s (replicate 16 0)))
+      by x true = refl
+      by x false = refl
+
+      go : (o : Option ℕ) → found s q ≡ o → 0 < q .size .0 → allocateAnswer current (blockBytes current s) (q .size .0) o ≡ told (takes s q o)
+      go none h i = refl
+      go (some x) h i =
+          let l = eligible-below (window (s .limit) q) s x i (found-eligible s q x h) in
+          rw (range-is Taken (Fill (tag 0 0)) x (q .size .0) (omega (arith, top-is))) (by x (leb (length (edited s Taken (Fill (tag 0 0)) x (q .size .0))) 128))
+
+-- ---- a list of calls
+
+pub call-played : (c : Call) (s : Contents) → Spellable current s → playable c ≡ true → answerOf c (blockBytes current s) ≡ told (play c s)
+unfolding playable
+call-played toFresh s sp e = let z : _≡_ {A = ℕ} 0 1 = cc in absurd (omega arith)
+call-played (toSet limit direction) s sp e = set-played s sp limit direction e
+call-played (toCommand c) s sp e =
+    let p = both (legalVerb (c .verb)) (leb (c .base) 18446744073709551615) e in
+    command-played s sp c (p .0) (leb-true (c .base) 18446744073709551615 (p .1))
+call-played (toTrim align) s sp e = trim-played s sp align e
+call-played (toFind q slip) s sp e = find-played s sp q slip e
+call-played (toNextFree from node slip) s sp e = let z : _≡_ {A = ℕ} 0 1 = cc in absurd (omega arith)
+call-played (toAllocate q slip) s sp e = allocate-played s sp q slip e
+call-played (toIntake report) s sp e = let z : _≡_ {A = ℕ} 0 1 = cc in absurd (omega arith)
+
+unfoldable pub plays : List Call → Contents → List Played
+plays [] s = []
+plays (c ∷ cs) s = play c s ∷ plays cs (play c s .after)
+
+-- each call is one that the twin works out, on contents that can stand in a block
+unfoldable pub allPlayable : List Call → Contents → Bool
+allPlayable [] s = true
+allPlayable (c ∷ cs) s = (sound s && playable c) && allPlayable cs (play c s .after)
+
+pub answers-played : (cs : List Call) (s : Contents) → allPlayable cs s ≡ true → answers cs (blockBytes current s) ≡ map told (plays cs s)
+unfolding answers plays allPlayable
+answers-played [] s e = refl
+answers-played (c ∷ cs) s e =
+    let p = both (sound s && playable c) (allPlayable cs (play c s .after)) e in
+    let q = both (sound s) (playable c) (p .0) in
+    let a = call-played c s (sound-spellable s (q .0)) (q .1) in
+    ap₂ (λ (x : Answer) (xs : List Answer). x ∷ xs) a (ap (λ (x : Answer). answers cs (x .block)) a ∙ answers-played cs (play c s .after) (p .1))

@@ -1,0 +1,148 @@
+-- One command on a good block: refused, it leaves the block; done, it leaves a good block that says what it made of each address. Assumes nothing.
+use Prim.Native.Nat.{ℕ}
+use mathlib.Core.Path.{_≡_, refl, ap, _∙_}
+use mathlib.Core.Bool.{Bool, true, false, cond, _&&_}
+use mathlib.Core.List.{List}
+use mathlib.Core.Logic.{_⊎_, inl, inr}
+use lib.Dec.{leb, eqb}
+use lib.ListN.{length}
+use Rattle.regions.specs.declared.Kind.{Kind}
+use Rattle.regions.specs.declared.Kind.the-variants.{Memory, Taken}
+use Rattle.regions.specs.declared.Region.{Region}
+use Rattle.regions.specs.declared.State.{State}
+use Rattle.regions.specs.declared.Change.{Change}
+use Rattle.regions.specs.declared.Change.the-variants.{Fill, Clear, Mark, Unmark}
+use Rattle.regions.specs.Meaning.{inside, at}
+use Rattle.regions.specs.Lists.{legalTag, goodList}
+use Rattle.regions.specs.Changes.{change, after, cut, changed}
+use Rattle.regions.proofs.Legal.{Keeps, fill-keeps, clear-keeps, mark-keeps, unmark-keeps, changed-at}
+use Rattle.block.specs.Block.{current, capacity, Contents, listOf, withList, blockBytes, contents, good}
+use Rattle.tables.specs.Commands.{Outcome, outcome, unless, store, changeRange, tag, add, remove, mark, unmark, reserve, free}
+use Rattle.block.proofs.Blocks.{lists-ok, good-contents}
+use Rattle.block.proofs.Layouts.{small-current}
+use Rattle.block.proofs.Kept.{Kept, change-kept}
+use Rattle.memblock.specs.Calls.{Verb, adds, removes, marks, unmarks, reserves, frees, Command, outcomeBy, outcomeOf}
+use Rattle.memblock.specs.Lists.{table, covers}
+
+-- ---- the six commands as one
+
+abbrev pub changeOf : Verb → Change
+changeOf (adds t) = Fill t
+changeOf removes = Clear
+changeOf marks = Mark 4
+changeOf unmarks = Unmark 4
+changeOf reserves = Fill (tag 0 0)
+changeOf frees = Clear
+
+-- the tag is legal: only add has one
+abbrev pub legalVerb : Verb → Bool
+legalVerb (adds t) = legalTag Memory t
+legalVerb removes = true
+legalVerb marks = true
+legalVerb unmarks = true
+legalVerb reserves = true
+legalVerb frees = true
+
+pub outcome-is : (v : Verb) (base size : ℕ) (b : List ℕ)
+    → outcomeBy v base size b ≡ unless (good current b) 1 b (unless (legalVerb v) 2 b (changeRange current (table v) (changeOf v) base size b))
+unfolding outcomeBy add remove mark unmark reserve free
+outcome-is (adds t) base size b = refl
+outcome-is removes base size b = refl
+outcome-is marks base size b = refl
+outcome-is unmarks base size b = refl
+outcome-is reserves base size b = refl
+outcome-is frees base size b = refl
+
+verb-keeps : (v : Verb) → legalVerb v ≡ true → Keeps (table v) (changeOf v)
+unfolding legalTag
+verb-keeps (adds t) e = fill-keeps Memory t e
+verb-keeps removes e = clear-keeps Memory
+verb-keeps marks e = mark-keeps
+verb-keeps unmarks e = unmark-keeps
+verb-keeps reserves e = fill-keeps Taken (tag 0 0) refl
+verb-keeps frees e = clear-keeps Taken
+
+-- ---- what a command makes of an address
+
+abbrev pub sameKind : Kind → Kind → Bool
+sameKind Memory Memory = true
+sameKind Memory Taken = false
+sameKind Taken Memory = false
+sameKind Taken Taken = true
+
+-- the command works on the table k and covers a there
+abbrev pub works : Command → Kind → ℕ → Bool
+works d k a = sameKind (table (d .verb)) k && covers d a
+
+-- of an address that stood as v in the table k
+unfoldable pub made : Command → Kind → ℕ → State → State
+made d k a v = cond (works d k a) (change (changeOf (d .verb)) v) v
+
+-- e is a good block with the settings of b that says what the command makes of each address of b
+pub record Made (d : Command) (b e : List ℕ) : Type 0 where
+  pub isGood : good current e ≡ true
+  pub limit : contents current e .limit ≡ contents current b .limit
+  pub direction : contents current e .direction ≡ contents current b .direction
+  pub says : (k : Kind) (a : ℕ) → at (listOf (contents current e) k) a ≡ made d k a (at (listOf (contents current b) k) a)
+
+pub record Refused (d : Command) (b : List ℕ) : Type 0 where
+  pub number : eqb (outcomeOf d b .number) 0 ≡ false
+  pub block : outcomeOf d b .block ≡ b
+
+pub record Done (d : Command) (b : List ℕ) : Type 0 where
+  pub number : eqb (outcomeOf d b .number) 0 ≡ true
+  pub block : Made d b (outcomeOf d b .block)
+
+-- the list of the table j is the changed one, and the other is as it was
+with-at : (j k : Kind) (s : Contents) (c : Change) (base size a : ℕ) → goodList j (listOf s j) ≡ true
+    → at (listOf (withList s j (changed c base size (listOf s j))) k) a
+    ≡ cond (sameKind j k && inside base (cut base size) a) (change c (at (listOf s k) a)) (at (listOf s k) a)
+unfolding after
+with-at Memory Memory s c base size a g = changed-at Memory c base size (s .memory) g a
+with-at Memory Taken s c base size a g = refl
+with-at Taken Memory s c base size a g = refl
+with-at Taken Taken s c base size a g = changed-at Taken c base size (s .taken) g a
+
+with-limit : (j : Kind) (s : Contents) (xs : List Region) → withList s j xs .limit ≡ s .limit
+with-limit Memory s xs = refl
+with-limit Taken s xs = refl
+
+with-direction : (j : Kind) (s : Contents) (xs : List Region) → withList s j xs .direction ≡ s .direction
+with-direction Memory s xs = refl
+with-direction Taken s xs = refl
+
+module _ (d : Command) (b : List ℕ) (g : good current b ≡ true) where
+  -- the finished list of the table that the command works on
+  finished : List Region
+  finished = changed (changeOf (d .verb)) (d .base) (d .size) (listOf (contents current b) (table (d .verb)))
+
+  kept-made : (e : List ℕ) → Kept current (table (d .verb)) finished b e → Made d b e
+  unfolding finished made
+  kept-made e h =
+      let j : Kind = table (d .verb) in
+      let s : Contents = contents current b in
+      record {
+        isGood = h .isGood;
+        limit = ap (λ (x : Contents). x .limit) (h .says) ∙ with-limit j s finished;
+        direction = ap (λ (x : Contents). x .direction) (h .says) ∙ with-direction j s finished;
+        says =
+            λ k a. ap (λ (x : Contents). at (listOf x k) a) (h .says)
+            ∙ with-at j k s (changeOf (d .verb)) (d .base) (d .size) a (lists-ok current s (good-contents current b g) j);
+      }
+
+  refused : (n : ℕ) → eqb n 0 ≡ false → outcomeOf d b ≡ outcome n b → Refused d b
+  refused n z e = record { number = ap (λ (o : Outcome). eqb (o .number) 0) e ∙ z; block = ap (λ (o : Outcome). o .block) e }
+
+  pub step : Refused d b ⊎ Done d b
+  unfolding finished store
+  step = go (legalVerb (d .verb)) refl (leb (length finished) (capacity current (table (d .verb)))) refl
+    where
+      go : (l : Bool) → legalVerb (d .verb) ≡ l → (m : Bool) → leb (length finished) (capacity current (table (d .verb))) ≡ m → Refused d b ⊎ Done d b
+      go false e m f = inl (refused 2 refl (outcome-is (d .verb) (d .base) (d .size) b ∙ rw (g, e)))
+      go true e false f = inl (refused 6 refl (outcome-is (d .verb) (d .base) (d .size) b ∙ rw (g, e, f)))
+      go true e true f =
+          let x : List ℕ = blockBytes current (withList (contents current b) (table (d .verb)) finished) in
+          let o : outcomeOf d b ≡ outcome 0 x = outcome-is (d .verb) (d .base) (d .size) b ∙ rw (g, e, f) in
+          let m : Made d b x =
+          kept-made x (change-kept current small-current b g (table (d .verb)) (changeOf (d .verb)) (d .base) (d .size) (verb-keeps (d .verb) e) f) in
+          inr (record { number = ap (λ (y : Outcome). eqb (y .number) 0) o; block = rw (ap (λ (y : Outcome). y .block) o) m })

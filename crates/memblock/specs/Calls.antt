@@ -1,0 +1,71 @@
+-- Calls as data: every entry point with its numbers and the slip it is lent, and a list of calls on one block. Assumes nothing.
+use Prim.Native.Nat.{ℕ}
+use mathlib.Core.List.{List, [], _∷_}
+use Rattle.regions.specs.declared.Tag.{Tag}
+use Rattle.block.specs.Block.{current}
+use Rattle.tables.specs.Commands.{Outcome, fresh, set, add, remove, mark, unmark, reserve, free, trim}
+use Rattle.intake.specs.E820.{intakeE820}
+use Rattle.runs.specs.declared.Query.{Query}
+use Rattle.search.specs.Answers.{Answer, answer, find, allocate, nextFree}
+
+-- the six commands of document 01's lists, each whatever its range; add has its tag
+pub data Verb : Type 0 where
+  adds : Tag → Verb
+  removes : Verb
+  marks : Verb
+  unmarks : Verb
+  reserves : Verb
+  frees : Verb
+
+pub record Command : Type 0 where
+  pub verb : Verb
+  pub base : ℕ
+  pub size : ℕ
+
+-- what a command answers and leaves: the definition that the contract of its exported function cites
+unfoldable pub outcomeBy : Verb → ℕ → ℕ → List ℕ → Outcome
+outcomeBy (adds t) base size b = add current base size (t .flags) (t .node) b
+outcomeBy removes base size b = remove current base size b
+outcomeBy marks base size b = mark current base size b
+outcomeBy unmarks base size b = unmark current base size b
+outcomeBy reserves base size b = reserve current base size b
+outcomeBy frees base size b = free current base size b
+
+abbrev pub outcomeOf : Command → List ℕ → Outcome
+outcomeOf c b = outcomeBy (c .verb) (c .base) (c .size) b
+
+-- a call of any entry point; a slip is lent anew to each call that takes one
+pub data Call : Type 0 where
+  toFresh : Call
+  toSet : (limit direction : ℕ) → Call
+  toCommand : Command → Call
+  toTrim : (align : ℕ) → Call
+  toFind : Query → (slip : List ℕ) → Call
+  toNextFree : (from node : ℕ) → (slip : List ℕ) → Call
+  toAllocate : Query → (slip : List ℕ) → Call
+  toIntake : (report : List ℕ) → Call
+
+-- a call without a slip leaves none
+abbrev pub plain : Outcome → Answer
+plain o = answer (o .number) (o .block) []
+
+-- the number, the block and the slip after a call
+unfoldable pub answerOf : Call → List ℕ → Answer
+answerOf toFresh b = plain (fresh current b)
+answerOf (toSet limit direction) b = plain (set current limit direction b)
+answerOf (toCommand c) b = plain (outcomeOf c b)
+answerOf (toTrim align) b = plain (trim current align b)
+answerOf (toFind q slip) b = find current q b slip
+answerOf (toNextFree from node slip) b = nextFree current from node b slip
+answerOf (toAllocate q slip) b = allocate current q b slip
+answerOf (toIntake report) b = plain (intakeE820 current report b)
+
+-- the answers of a list of calls, each on the block that the one before it left
+unfoldable pub answers : List Call → List ℕ → List Answer
+answers [] b = []
+answers (c ∷ cs) b = answerOf c b ∷ answers cs (answerOf c b .block)
+
+-- the block that a list of calls leaves
+unfoldable pub leaves : List Call → List ℕ → List ℕ
+leaves [] b = b
+leaves (c ∷ cs) b = leaves cs (answerOf c b .block)

@@ -1,0 +1,145 @@
+// The functions that boot code calls. Each takes numbers and lent bytes, answers document 01's number, and asks nothing of its caller.
+use address::Address;
+use address::Size;
+use regions::Tag;
+use runs::Query;
+ghost use mathlib.Core.Path.{_≡_};
+ghost use Rattle.block.specs.Block.{current};
+ghost use Rattle.intake.specs.E820.{intakeE820};
+ghost use Rattle.runs.specs.Eligible.{query};
+ghost use Rattle.search.specs.Answers.{answer, find, nextFree, allocate};
+ghost use Rattle.tables.specs.Commands.{outcome, fresh, set, add, remove, mark, unmark, reserve, free, trim};
+
+// Writes a fresh block over any 6,224 bytes.
+#[no_mangle]
+pub extern "C" fn memblock_fresh(block: &mut [u8]) -> u32
+    ensures { λ r. ⌜ outcome r (now (block .exit)) ≡ fresh current (now (block .entry)) ⌝ }
+{
+    tables::commands::fresh(block)
+}
+
+// Stores a limit and a direction (0 top-down, 1 bottom-up).
+#[no_mangle]
+pub extern "C" fn memblock_set(block: &mut [u8], limit: u64, direction: u32) -> u32
+    ensures { λ r. ⌜ outcome r (now (block .exit)) ≡ set current limit direction (now (block .entry)) ⌝ }
+{
+    tables::commands::set(block, Address(limit), direction)
+}
+
+// Gives the tag to each address of the range not yet in memory.
+#[no_mangle]
+pub extern "C" fn memblock_add(block: &mut [u8], base: u64, size: u64, flags: u32, node: u32) -> u32
+    ensures { λ r. ⌜ outcome r (now (block .exit)) ≡ add current base size flags node (now (block .entry)) ⌝ }
+{
+    tables::commands::add(block, Address(base), Size(size), Tag { flags, node })
+}
+
+// Takes addresses out of memory.
+#[no_mangle]
+pub extern "C" fn memblock_remove(block: &mut [u8], base: u64, size: u64) -> u32
+    ensures { λ r. ⌜ outcome r (now (block .exit)) ≡ remove current base size (now (block .entry)) ⌝ }
+{
+    tables::commands::remove(block, Address(base), Size(size))
+}
+
+// Sets no-map on the range's addresses that are in memory.
+#[no_mangle]
+pub extern "C" fn memblock_mark(block: &mut [u8], base: u64, size: u64) -> u32
+    ensures { λ r. ⌜ outcome r (now (block .exit)) ≡ mark current base size (now (block .entry)) ⌝ }
+{
+    tables::commands::mark(block, Address(base), Size(size))
+}
+
+// Clears no-map on them.
+#[no_mangle]
+pub extern "C" fn memblock_unmark(block: &mut [u8], base: u64, size: u64) -> u32
+    ensures { λ r. ⌜ outcome r (now (block .exit)) ≡ unmark current base size (now (block .entry)) ⌝ }
+{
+    tables::commands::unmark(block, Address(base), Size(size))
+}
+
+// Puts addresses into the taken set.
+#[no_mangle]
+pub extern "C" fn memblock_reserve(block: &mut [u8], base: u64, size: u64) -> u32
+    ensures { λ r. ⌜ outcome r (now (block .exit)) ≡ reserve current base size (now (block .entry)) ⌝ }
+{
+    tables::commands::reserve(block, Address(base), Size(size))
+}
+
+// Takes addresses out of it.
+#[no_mangle]
+pub extern "C" fn memblock_free(block: &mut [u8], base: u64, size: u64) -> u32
+    ensures { λ r. ⌜ outcome r (now (block .exit)) ≡ free current base size (now (block .entry)) ⌝ }
+{
+    tables::commands::free(block, Address(base), Size(size))
+}
+
+// Rounds each memory record's base up and its end down by an alignment; one of which nothing is left goes.
+#[no_mangle]
+pub extern "C" fn memblock_trim(block: &mut [u8], alignment: u64) -> u32
+    ensures { λ r. ⌜ outcome r (now (block .exit)) ≡ trim current alignment (now (block .entry)) ⌝ }
+{
+    tables::commands::trim(block, Size(alignment))
+}
+
+// Writes the lowest free address at or above `from` of the node asked for, and the end of its free run. The block stays.
+#[no_mangle]
+pub extern "C" fn memblock_next_free(block: &[u8], from: u64, node: u32, slip: &mut [u8]) -> u32
+    ensures { λ r. ⌜ answer r (now (block .entry)) (now (slip .exit)) ≡ nextFree current from node (now (block .entry)) (now (slip .entry)) ⌝ }
+{
+    search::find::next_free(block, Address(from), node, slip)
+}
+
+// Writes the address found and the end of its range. The block stays.
+#[no_mangle]
+pub extern "C" fn memblock_find(
+    block: &[u8],
+    size: u64,
+    alignment: u64,
+    start: u64,
+    end: u64,
+    node: u32,
+    slip: &mut [u8],
+) -> u32
+    ensures { λ r. ⌜ answer r (now (block .entry)) (now (slip .exit)) ≡ find current (query size alignment start end node) (now (block .entry)) (now (slip .entry)) ⌝ }
+{
+    let q = Query {
+        size: Size(size),
+        align: Size(alignment),
+        start: Address(start),
+        end: Address(end),
+        node,
+    };
+    search::find::find(block, q, slip)
+}
+
+// Reserves the address that find finds, and writes it and the end of its range.
+#[no_mangle]
+pub extern "C" fn memblock_allocate(
+    block: &mut [u8],
+    size: u64,
+    alignment: u64,
+    start: u64,
+    end: u64,
+    node: u32,
+    slip: &mut [u8],
+) -> u32
+    ensures { λ r. ⌜ answer r (now (block .exit)) (now (slip .exit)) ≡ allocate current (query size alignment start end node) (now (block .entry)) (now (slip .entry)) ⌝ }
+{
+    let q = Query {
+        size: Size(size),
+        align: Size(alignment),
+        start: Address(start),
+        end: Address(end),
+        node,
+    };
+    search::allocate::allocate(block, q, slip)
+}
+
+// Takes an E820 report in, whole or not at all.
+#[no_mangle]
+pub extern "C" fn memblock_intake_e820(block: &mut [u8], report: &[u8]) -> u32
+    ensures { λ r. ⌜ outcome r (now (block .exit)) ≡ intakeE820 current (now (report .entry)) (now (block .entry)) ⌝ }
+{
+    intake::e820::intake(block, report)
+}

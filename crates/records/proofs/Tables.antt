@@ -1,0 +1,44 @@
+-- The bytes of a good list are a table. Assumes nothing.
+use Prim.Native.Nat.{ℕ, _*_, _-_, _≤_}
+use mathlib.Core.Path.{_≡_, refl}
+use mathlib.Core.Bool.{Bool, true, false, _||_}
+use mathlib.Core.List.{List, [], _∷_}
+use native.Mathlib.Omega.{arith}
+use lib.Dec.{leb, eqb}
+use lib.ListN.{length}
+use borrow.Author.Tests.{eqb-true}
+use Rattle.address.proofs.Tests.{both}
+use Rattle.regions.specs.declared.Kind.{Kind}
+use Rattle.regions.specs.declared.Kind.the-variants.{Memory, Taken}
+use Rattle.regions.specs.declared.Tag.{Tag}
+use Rattle.regions.specs.declared.Region.{Region}
+use Rattle.regions.specs.Lists.{legal, legalTag, goodList}
+use Rattle.regions.specs.Bytes.{readRegions}
+use Rattle.regions.proofs.Rises.{Rises-rises}
+use Rattle.regions.proofs.Good.{good-rises, good-legal}
+use Rattle.records.specs.Steps.{AllLight, Table}
+
+-- legal tags have few flags
+tag-light : (k : Kind) (t : Tag) → legalTag k t ≡ true → t .flags ≤ 7
+unfolding legalTag
+tag-light Memory t e = go (eqb (t .flags) 0) refl (both (eqb (t .flags) 0 || eqb (t .flags) 4) (leb (t .node) 63) e .0)
+  where
+    go : (b : Bool) → eqb (t .flags) 0 ≡ b → b || eqb (t .flags) 4 ≡ true → t .flags ≤ 7
+    go true f g = omega (arith, eqb-true (t .flags) 0 f)
+    go false f g = omega (arith, eqb-true (t .flags) 4 g)
+tag-light Taken t e = omega (arith, eqb-true (t .flags) 0 (both (eqb (t .flags) 0) (eqb (t .node) 0) e .0))
+
+legal-light : (k : Kind) (xs : List Region) → legal k xs ≡ true → AllLight xs
+unfolding legal
+legal-light k [] e = tt
+legal-light k (r ∷ rs) e =
+    let p = both (legalTag k (r .tag)) (legal k rs) e in
+    (tag-light k (r .tag) (p .0), legal-light k rs (p .1))
+
+pub good-table : (k : Kind) (n : ℕ) (l : List ℕ) → 24 * n ≤ length l → goodList k (readRegions n l) ≡ true → Table l n
+good-table k n l h g =
+    record {
+      room = h;
+      rising = Rises-rises (good-rises k (readRegions n l) g);
+      light = legal-light k (readRegions n l) (good-legal k (readRegions n l) g);
+    }

@@ -1,0 +1,202 @@
+-- Zero bytes, one at a time and as many as make a number. Assumes nothing.
+use Prim.Native.Nat.{ℕ, zero, suc, _+_, _*_, _-_, _≤_, _<_}
+use mathlib.Core.Path.{_≡_, refl, sym, ap, ap₂, _∙_}
+use mathlib.Core.Bool.{Bool, true, false, _&&_}
+use mathlib.Core.List.{List, [], _∷_, _++_, append-assoc, append-nil}
+use native.Mathlib.Omega.{arith}
+use native.Mathlib.Nat.{le-of-suc-le-suc, not-suc-le-zero}
+use native.Mathlib.Numerals.{add-one}
+use lib.Dec.{eqb}
+use lib.ListN.{length, take, drop, getD, set, replicate, length-append, length-drop, length-replicate, replicate-append-replicate, take-append-drop, drop-of-length-le}
+use lib.Seq.{drop-cons, drop-drop, take-add, take-all, length-take-le, set-at}
+use lib.Bits.{bitOr, or-add-and, and-le-l, and-le-r}
+use borrow.Author.Tests.{eq-eqb, ne-eqb, eqb-true, eqb-false}
+use Rattle.address.proofs.Tests.{both}
+use Rattle.regions.specs.Bytes.{number}
+use Rattle.records.specs.Checks.{zeros}
+
+-- a sum is 0 where both parts are
+sum-zero : (b m : ℕ) → eqb (b + 256 * m) 0 ≡ (eqb b 0 && eqb m 0)
+sum-zero b m = go (eqb b 0) refl
+  where
+    go : (t : Bool) → eqb b 0 ≡ t → eqb (b + 256 * m) 0 ≡ (t && eqb m 0)
+    go true e = rest (eqb m 0) refl
+      where
+        rest : (u : Bool) → eqb m 0 ≡ u → eqb (b + 256 * m) 0 ≡ u
+        rest true f = eq-eqb (b + 256 * m) 0 (omega (arith, eqb-true b 0 e, eqb-true m 0 f))
+        rest false f = ne-eqb (b + 256 * m) 0 (λ z. eqb-false m 0 f (omega arith))
+    go false e = ne-eqb (b + 256 * m) 0 (λ z. eqb-false b 0 e (omega arith))
+
+-- the first k bytes are 0 exactly when the number that they spell is
+zeros-number : (k : ℕ) (l : List ℕ) → k ≤ length l → zeros l ≡ (eqb (number k l) 0 && zeros (drop k l))
+unfolding zeros number
+zeros-number zero l h = refl
+zeros-number (suc k) [] h = absurd (not-suc-le-zero h)
+zeros-number (suc k) (b ∷ l) h = rw (sum-zero b (number k l), zeros-number k l (le-of-suc-le-suc h)) (three (eqb b 0) (eqb (number k l) 0) (zeros (drop k l)))
+  where
+    three : (x y z : Bool) → x && (y && z) ≡ (x && y) && z
+    three true y z = refl
+    three false y z = refl
+
+module _ (l : List ℕ) (at i : ℕ) (inv : zeros (drop at l) ≡ zeros (drop i l)) where
+  pub zeros-end : length l ≤ i → true ≡ zeros (drop at l)
+  unfolding zeros
+  zeros-end h = sym (inv ∙ ap zeros (drop-of-length-le l h))
+
+  step : i < length l → zeros (drop at l) ≡ (eqb (getD l i 0) 0 && zeros (drop (i + 1) l))
+  unfolding zeros
+  step h = inv ∙ ap zeros (drop-cons l i 0 h) ∙ rw add-one
+
+  pub zeros-hit : i < length l → (getD l i 0 ≡ 0 → ⊥) → false ≡ zeros (drop at l)
+  zeros-hit h z = rw (step h, ne-eqb (getD l i 0) 0 z)
+
+  pub zeros-again : i < length l → getD l i 0 ≡ 0 → zeros (drop at l) ≡ zeros (drop (i + 1) l)
+  zeros-again h z = rw (step h, eq-eqb (getD l i 0) 0 z)
+
+  step8 : 8 ≤ length l - i → zeros (drop at l) ≡ (eqb (number 8 (drop i l)) 0 && zeros (drop (i + 8) l))
+  step8 h =
+      let n : 8 ≤ length (drop i l) = simp length-drop (omega arith) in
+      inv ∙ zeros-number 8 (drop i l) n ∙ rw drop-drop
+
+  pub zeros-hit8 : (v : ℕ) → 8 ≤ length l - i → v ≡ number 8 (drop i l) → (v ≡ 0 → ⊥) → false ≡ zeros (drop at l)
+  zeros-hit8 v h e z = rw (step8 h, ← e, ne-eqb v 0 z)
+
+  pub zeros-again8 : (v : ℕ) → 8 ≤ length l - i → v ≡ number 8 (drop i l) → v ≡ 0 → zeros (drop at l) ≡ zeros (drop (i + 8) l)
+  zeros-again8 v h e z = rw (step8 h, ← e, eq-eqb v 0 z)
+
+  pub zeros-rest : (b : Bool) → b ≡ zeros (drop i l) → b ≡ zeros (drop at l)
+  zeros-rest b e = e ∙ sym inv
+
+-- ---- words joined
+
+-- joined words are 0 where both are
+or-none : (a b : ℕ) → eqb (bitOr a b) 0 ≡ (eqb a 0 && eqb b 0)
+or-none a b = go (eqb a 0) refl
+  where
+    go : (t : Bool) → eqb a 0 ≡ t → eqb (bitOr a b) 0 ≡ (t && eqb b 0)
+    go true e = rest (eqb b 0) refl
+      where
+        rest : (u : Bool) → eqb b 0 ≡ u → eqb (bitOr a b) 0 ≡ u
+        rest true f = eq-eqb (bitOr a b) 0 (omega (arith, eqb-true a 0 e, eqb-true b 0 f, or-add-and a b))
+        rest false f = ne-eqb (bitOr a b) 0 (λ z. eqb-false b 0 f (omega (arith, or-add-and a b, and-le-l a b)))
+    go false e = ne-eqb (bitOr a b) 0 (λ z. eqb-false a 0 e (omega (arith, or-add-and a b, and-le-r a b)))
+
+zeros-append : (x y : List ℕ) → zeros (x ++ y) ≡ (zeros x && zeros y)
+unfolding zeros
+zeros-append [] y = refl
+zeros-append (b ∷ x) y = rw (zeros-append x y) (go (eqb b 0))
+  where
+    go : (t : Bool) → t && (zeros x && zeros y) ≡ (t && zeros x) && zeros y
+    go true = refl
+    go false = refl
+
+-- a number is 0 where its bytes are
+number-zeros : (k : ℕ) (l : List ℕ) → eqb (number k l) 0 ≡ zeros (take k l)
+unfolding zeros number
+number-zeros zero l = refl
+number-zeros (suc k) [] = refl
+number-zeros (suc k) (b ∷ l) = sum-zero b (number k l) ∙ rw (number-zeros k l)
+
+module _ (l : List ℕ) where
+  -- v is 0 exactly when the m bytes from i on are
+  abbrev Spells : ℕ → ℕ → ℕ → Type 0
+  Spells m i v = eqb v 0 ≡ zeros (take m (drop i l))
+
+  word : (i v : ℕ) → v ≡ number 8 (drop i l) → Spells 8 i v
+  word i v e = rw e (number-zeros 8 (drop i l))
+
+  joined : (m k i j n a b : ℕ) → i + m ≡ j → m + k ≡ n → Spells m i a → Spells k j b → Spells n i (bitOr a b)
+  joined m k i j n a b e f p q =
+      let c : drop m (drop i l) ≡ drop j l = drop-drop m i l ∙ rw e in
+      rw (← f, take-add m k (drop i l), c, zeros-append, ← p, ← q) (or-none a b)
+
+  -- four of one length, one after the other
+  four : (m i j k n a b c d : ℕ) → i + 2 * m ≡ j → i + 3 * m ≡ k → 4 * m ≡ n → Spells m i a → Spells m (i + m) b → Spells m j c → Spells m k d
+      → Spells n i (bitOr (bitOr (bitOr a b) c) d)
+  four m i j k n a b c d ej ek en p q r s =
+      joined (3 * m) m i k n (bitOr (bitOr a b) c) d ek (omega arith)
+      (joined (2 * m) m i j (3 * m) (bitOr a b) c ej (omega arith) (joined m m i (i + m) (2 * m) a b refl (omega arith) p q) r)
+      s
+
+  pub four-words : (i a b c d : ℕ) → a ≡ number 8 (drop i l) → b ≡ number 8 (drop (i + 8) l) → c ≡ number 8 (drop (i + 16) l) → d ≡ number 8 (drop (i + 24) l)
+      → eqb (bitOr (bitOr (bitOr a b) c) d) 0 ≡ zeros (take 32 (drop i l))
+  four-words i a b c d p q r s = four 8 i (i + 16) (i + 24) 32 a b c d refl refl refl (word i a p) (word (i + 8) b q) (word (i + 16) c r) (word (i + 24) d s)
+
+  pub four-32 : (i a b c d : ℕ) → eqb a 0 ≡ zeros (take 32 (drop i l)) → eqb b 0 ≡ zeros (take 32 (drop (i + 32) l)) → eqb c 0 ≡ zeros (take 32 (drop (i + 64) l))
+      → eqb d 0 ≡ zeros (take 32 (drop (i + 96) l)) → eqb (bitOr (bitOr (bitOr a b) c) d) 0 ≡ zeros (take 128 (drop i l))
+  four-32 i a b c d p q r s = four 32 i (i + 64) (i + 96) 128 a b c d refl refl refl p q r s
+
+  -- from `at` up to i all is 0
+  cut : (at i : ℕ) → at ≤ i → zeros (drop at l) ≡ (zeros (take (i - at) (drop at l)) && zeros (drop i l))
+  cut at i h =
+      let e : at + (i - at) ≡ i = omega arith in
+      let d : drop (i - at) (drop at l) ≡ drop i l = drop-drop (i - at) at l ∙ rw e in
+      let f : take (i - at) (drop at l) ++ drop i l ≡ drop at l = rw (← d) (take-append-drop (i - at) (drop at l)) in
+      rw (← zeros-append, f)
+
+  pub none-yet : (at : ℕ) → zeros (take (at - at) (drop at l)) ≡ true
+  unfolding zeros
+  none-yet at = let e : at - at ≡ 0 = omega arith in rw e
+
+  -- m bytes a turn
+  module _ (m at i : ℕ) (low : at ≤ i) (inv : zeros (take (i - at) (drop at l)) ≡ true) where
+    pub zero-turn : (v : ℕ) → eqb v 0 ≡ zeros (take m (drop i l)) → v ≡ 0 → zeros (take (i + m - at) (drop at l)) ≡ true
+    zero-turn v e z =
+        let f : i + m - at ≡ i - at + m = omega arith in
+        let g : at + (i - at) ≡ i = omega arith in
+        let d : drop (i - at) (drop at l) ≡ drop i l = drop-drop (i - at) at l ∙ rw g in
+        rw (f, take-add (i - at) m (drop at l), d, zeros-append, inv, ← e, eq-eqb v 0 z)
+
+    pub turn-hit : (v : ℕ) → eqb v 0 ≡ zeros (take m (drop i l)) → (v ≡ 0 → ⊥) → false ≡ zeros (drop at l)
+    turn-hit v e z =
+        let d : zeros (drop i l) ≡ false = cut-here ∙ rw (← e, ne-eqb v 0 z) in
+        sym (cut at i low ∙ rw (inv, d))
+      where
+        cut-here : zeros (drop i l) ≡ (zeros (take m (drop i l)) && zeros (drop m (drop i l)))
+        cut-here = rw (← zeros-append, take-append-drop)
+
+    -- fewer than m are left: they are among the last m
+    pub zero-last : (n v : ℕ) → n ≡ length l → eqb v 0 ≡ zeros (take m (drop (n - m) l)) → m ≤ n - at → n - i < m → eqb v 0 ≡ zeros (drop at l)
+    zero-last n v len e h k =
+        let j : ℕ = n - m in
+        let r : length (drop j l) ≤ m = simp length-drop (omega arith) in
+        let f : i - at ≡ j - at + (i - j) = omega arith in
+        let p : zeros (take (j - at) (drop at l)) && zeros (take (i - j) (drop (j - at) (drop at l))) ≡ true = rw (f, take-add (j - at) (i - j) (drop at l), zeros-append) at inv in
+        e ∙ sym (cut at j (omega arith) ∙ rw (both (zeros (take (j - at) (drop at l))) (zeros (take (i - j) (drop (j - at) (drop at l)))) p .0, take-all m (drop j l) r))
+
+-- zeros are zeros
+pub zeros-replicate : (l : List ℕ) → zeros l ≡ true → l ≡ replicate (length l) 0
+unfolding zeros
+zeros-replicate [] h = refl
+zeros-replicate (b ∷ l) h =
+    let p = both (eqb b 0) (zeros l) h in
+    ap₂ (λ (z : ℕ) (zs : List ℕ). z ∷ zs) (eqb-true b 0 (p .0)) (zeros-replicate l (p .1))
+
+pub replicate-zeros : (n : ℕ) → zeros (replicate n 0) ≡ true
+unfolding zeros
+replicate-zeros zero = refl
+replicate-zeros (suc n) = replicate-zeros n
+
+-- ---- zeros written from a place on: the list as it was before that place, zeros up to i, and the rest as it was
+
+module _ (t l : List ℕ) (at i : ℕ) (inv : t ≡ take at l ++ (replicate (i - at) 0 ++ drop i l)) (low : at ≤ i) where
+  pub zero-more : i < length l → set t i 0 ≡ take at l ++ (replicate (i + 1 - at) 0 ++ drop (i + 1) l)
+  zero-more h =
+      let k : ℕ = i - at in
+      let p : List ℕ = take at l ++ replicate k 0 in
+      let n : length p ≡ i =
+      length-append (take at l) (replicate k 0) ∙ omega (arith, length-take-le at l (omega arith), length-replicate {A = ℕ} k 0) in
+      let e : t ≡ p ++ (getD l i 0 ∷ drop (suc i) l) = inv ∙ sym (append-assoc (take at l) (replicate k 0) (drop i l)) ∙ ap (λ (x : List ℕ). p ++ x) (drop-cons l i 0 h) in
+      let f : i + 1 - at ≡ k + 1 = omega arith in
+      let g : replicate {A = ℕ} (k + 1) 0 ≡ replicate k 0 ++ (0 ∷ []) = sym (replicate-append-replicate k 1 0) in
+      rw (e, set-at p (getD l i 0) (drop (suc i) l) 0 i n, f, g, add-one, append-assoc, append-assoc)
+
+  pub zero-end : i ≤ length l → length l ≤ i → t ≡ take at l ++ replicate (length l - at) 0
+  zero-end h k =
+      let e : i ≡ length l = omega arith in
+      rw (inv, drop-of-length-le l k, append-nil, e)
+
+pub zero-none : (l : List ℕ) (at : ℕ) → l ≡ take at l ++ (replicate (at - at) 0 ++ drop at l)
+zero-none l at =
+    let e : at - at ≡ 0 = omega arith in
+    rw e (sym (take-append-drop at l))

@@ -1,0 +1,3 @@
+// The records of one table, lent as a part of the block.
+pub mod moves;
+pub mod table;

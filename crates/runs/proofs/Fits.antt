@@ -1,0 +1,219 @@
+-- One stretch: the fits are the lowest and the highest address of it that is in the window, and the code's steps find them. Assumes nothing.
+use Prim.Native.Nat.{ℕ, _+_, _-_, _/_, _%_, _≤_, _<_, min, max}
+use mathlib.Core.Path.{_≡_, refl, sym, ap, _∙_}
+use mathlib.Core.Bool.{Bool, true, false, cond, _&&_}
+use mathlib.Core.Option.{Option, none, some}
+use native.Mathlib.Omega.{arith}
+use lib.Dec.{leb, eqb}
+use borrow.Author.Tests.{le-leb, lt-leb, leb-true, leb-false, eq-eqb, ne-eqb, eqb-true}
+use Rattle.address.specs.Numbers.{address, difference, up, down, powerOfTwo}
+use Rattle.address.specs.declared.Address.{Address}
+use Rattle.address.specs.declared.CheckedAddress.{CheckedAddress}
+use Rattle.address.proofs.Tests.{both, and, no, clash}
+use Rattle.address.proofs.Checked.{address-at, address-outside}
+use Rattle.address.proofs.Rounding.{up-ge, up-multiple, up-least, down-le, down-multiple, down-most}
+use Rattle.address.proofs.Powers.{power-some}
+use Rattle.regions.specs.declared.Region.{Region}
+use Rattle.regions.specs.Runs.{runOf}
+use Rattle.runs.specs.declared.Query.{Query}
+use Rattle.regions.specs.declared.Run.{Run}
+use Rattle.runs.specs.Eligible.{onNode}
+use Rattle.runs.specs.Steps.{Hit, hitIn, spotOf, cutLow, cutHigh, serves, fitLow, fitHigh}
+use Rattle.runs.proofs.Twins.{Way, Up, Down, fit}
+use Rattle.runs.proofs.Stretches.{Before, Finds}
+use Rattle.address.specs.declared.CheckedAddress.the-variants as checked
+
+-- a multiple of the alignment, and the size from there lies between start and end
+abbrev pub inWindow : Query → ℕ → Bool
+inWindow q a = eqb (a % q .align .0) 0 && (leb (q .start .0) a && leb (a + q .size .0) (q .end .0))
+
+abbrev lowAt : Query → ℕ → ℕ
+lowAt q lo = up (max lo (q .start .0)) (q .align .0)
+
+abbrev highAt : Query → ℕ → ℕ
+highAt q hi = down (min hi (q .end .0) - q .size .0) (q .align .0)
+
+-- in the window, and by hi
+record Fine (q : Query) (hi a : ℕ) : Type 0 where
+  even : a % q .align .0 ≡ 0
+  from : q .start .0 ≤ a
+  to : a + q .size .0 ≤ q .end .0
+  by : a + q .size .0 ≤ hi
+
+module _ (q : Query) (hi a : ℕ) where
+  fine-of : inWindow q a && leb (a + q .size .0) hi ≡ true → Fine q hi a
+  fine-of e =
+      let f = both (inWindow q a) (leb (a + q .size .0) hi) e in
+      let g = both (eqb (a % q .align .0) 0) (leb (q .start .0) a && leb (a + q .size .0) (q .end .0)) (f .0) in
+      let h = both (leb (q .start .0) a) (leb (a + q .size .0) (q .end .0)) (g .1) in
+      record {
+        even = eqb-true (a % q .align .0) 0 (g .0);
+        from = leb-true (q .start .0) a (h .0);
+        to = leb-true (a + q .size .0) (q .end .0) (h .1);
+        by = leb-true (a + q .size .0) hi (f .1);
+      }
+
+  fine-yes : Fine q hi a → inWindow q a && leb (a + q .size .0) hi ≡ true
+  fine-yes f =
+      and (and (eq-eqb (a % q .align .0) 0 (f .even)) (and (le-leb (q .start .0) a (f .from)) (le-leb (a + q .size .0) (q .end .0) (f .to))))
+      (le-leb (a + q .size .0) hi (f .by))
+
+-- where p holds exactly at the addresses of the window from which the size ends by hi
+module _ (q : Query) (some-size : 0 < q .size .0) (some-align : 0 < q .align .0) (p : ℕ → Bool) (lo hi : ℕ)
+    (here : (a : ℕ) → lo ≤ a → a < hi → p a ≡ inWindow q a && leb (a + q .size .0) hi) where
+  yes : (a : ℕ) → lo ≤ a → Fine q hi a → p a ≡ true
+  yes a l f = here a l (omega arith) ∙ fine-yes q hi a f
+
+  fine : (a : ℕ) → lo ≤ a → a < hi → p a ≡ true → Fine q hi a
+  fine a l m e = fine-of q hi a (sym (here a l m) ∙ e)
+
+  least : (a : ℕ) → lo ≤ a → Fine q hi a → lowAt q lo ≤ a
+  least a l f = up-least (max lo (q .start .0)) (q .align .0) some-align a (omega arith) (f .even)
+
+  most : (a : ℕ) → lo ≤ a → Fine q hi a → a ≤ highAt q hi
+  most a l f = down-most (min hi (q .end .0) - q .size .0) (q .align .0) some-align a (omega arith) (f .even)
+
+  module _ (w : ℕ → Run) (run : (a : ℕ) → lo ≤ a → a < hi → runOf lo hi ≡ w a) where
+    abbrev Nearer : Way → ℕ → ℕ → Type 0
+    Nearer Up x a = x ≤ a
+    Nearer Down x a = a ≤ x
+
+    -- x is found where it fits, if it fits exactly when something does, and nothing that fits is nearer
+    best : (v : Way) (x : ℕ) (b : Bool) → (b ≡ true → (lo ≤ x) × Fine q hi x) → ((a : ℕ) → lo ≤ a → Fine q hi a → (b ≡ true) × Nearer v x a)
+        → Finds v w p lo hi (hitIn lo hi (cond b (some x) none))
+    best v x false f g = λ a i j. no (p a) (λ t. clash false (g a i (fine a i j t) .0) refl)
+    best v x true f g =
+        let k = f refl .1 in
+        let l = f refl .0 in
+        record { yes = yes x l k; low = l; high = omega arith; rest = before v g; run = run x l (omega arith) }
+      where
+        before : (v : Way) → ((a : ℕ) → lo ≤ a → Fine q hi a → (true ≡ true) × Nearer v x a) → Before v p lo hi x
+        before Up g = λ a i j. no (p a) (λ t. let k = g a i (fine a i (omega (arith, f refl .1 .by)) t) .1 in omega arith)
+        before Down g = λ a i j. no (p a) (λ t. let k = g a (omega (arith, f refl .0)) (fine a (omega (arith, f refl .0)) j t) .1 in omega arith)
+
+    pub fit-finds : (v : Way) → Finds v w p lo hi (fit v q lo hi)
+    unfolding fitLow cutLow fitHigh cutHigh
+    fit-finds Up =
+        let x = lowAt q lo in
+        let z = up-ge (max lo (q .start .0)) (q .align .0) some-align in
+        best Up x (leb (x + q .size .0) (min hi (q .end .0)))
+        (λ e. let h = leb-true (x + q .size .0) (min hi (q .end .0)) e in
+        (omega arith, record { even = up-multiple (max lo (q .start .0)) (q .align .0) some-align; from = omega arith; to = omega arith; by = omega arith }))
+        (λ a i f. let k = least a i f in (le-leb (x + q .size .0) (min hi (q .end .0)) (omega arith), k))
+    fit-finds Down =
+        let x = highAt q hi in
+        let z = down-le (min hi (q .end .0) - q .size .0) (q .align .0) some-align in
+        best Down x (leb (q .size .0) (min hi (q .end .0)) && leb (max lo (q .start .0)) x)
+        (λ e. let h = both (leb (q .size .0) (min hi (q .end .0))) (leb (max lo (q .start .0)) x) e in
+        let i = leb-true (q .size .0) (min hi (q .end .0)) (h .0) in
+        let j = leb-true (max lo (q .start .0)) x (h .1) in
+        (omega arith, record { even = down-multiple (min hi (q .end .0) - q .size .0) (q .align .0) some-align; from = omega arith; to = omega arith; by = omega arith }))
+        (λ a i f. let k = most a i f in (and (le-leb (q .size .0) (min hi (q .end .0)) (omega arith)) (le-leb (max lo (q .start .0)) x (omega arith)), k))
+
+-- nothing fits where there is nothing
+pub fit-none : (v : Way) (q : Query) (lo hi : ℕ) → 0 < q .size .0 → 0 < q .align .0 → hi ≤ lo → fit v q lo hi ≡ none
+fit-none v q lo hi s l h =
+    go (fit v q lo hi) (fit-finds q s l (λ a. inWindow q a && leb (a + q .size .0) hi) lo hi (λ a i j. refl) (λ a. runOf lo hi) (λ a i j. refl) v)
+  where
+    go : (o : Option Hit) → Finds v (λ a. runOf lo hi) (λ a. inWindow q a && leb (a + q .size .0) hi) lo hi o → o ≡ none
+    go none f = refl
+    go (some x) f = absurd (omega (arith, f .low, f .high))
+
+-- ---- the code's steps: whether a record serves
+
+module _ (node : ℕ) (r : Region) where
+  pub serves-no-map : r .tag .flags / 4 % 2 ≡ 1 → false ≡ serves (onNode node) r
+  serves-no-map e = rw (eq-eqb (r .tag .flags / 4 % 2) 1 e)
+
+  pub serves-any : (r .tag .flags / 4 % 2 ≡ 1 → ⊥) → node ≡ 4294967295 → true ≡ serves (onNode node) r
+  serves-any e f = rw (ne-eqb (r .tag .flags / 4 % 2) 1 e, eq-eqb node 4294967295 f)
+
+  pub serves-node : (r .tag .flags / 4 % 2 ≡ 1 → ⊥) → (node ≡ 4294967295 → ⊥) → eqb (r .tag .node) node ≡ serves (onNode node) r
+  serves-node e f = rw (ne-eqb (r .tag .flags / 4 % 2) 1 e, ne-eqb node 4294967295 f)
+
+-- ---- the lowest of a stretch
+
+module _ (q : Query) (from to : Address) where
+  low-no : to .0 < up (from .0) (q .align .0) + q .size .0 → checked.Outside ≡ spotOf (cutLow q (from .0) (to .0))
+  unfolding cutLow
+  low-no h = rw (lt-leb (up (from .0) (q .align .0) + q .size .0) (to .0) h)
+
+  -- a stretch that is too short for the size, whatever the alignment
+  module _ (l : powerOfTwo (q .align .0) ≡ true) where
+    pub low-none : to .0 < from .0 → checked.Outside ≡ spotOf (cutLow q (from .0) (to .0))
+    low-none h = low-no (omega (arith, up-ge (from .0) (q .align .0) (power-some (q .align .0) l)))
+
+    pub low-short : from .0 ≤ to .0 → to .0 - from .0 < q .size .0 → checked.Outside ≡ spotOf (cutLow q (from .0) (to .0))
+    low-short h k = low-no (omega (arith, up-ge (from .0) (q .align .0) (power-some (q .align .0) l)))
+
+  module _ (u : CheckedAddress) (rounded : u ≡ address (up (from .0) (q .align .0))) where
+    pub low-none-up : u ≡ checked.Outside → to .0 < 18446744073709551616 → checked.Outside ≡ spotOf (cutLow q (from .0) (to .0))
+    low-none-up e h = low-no (omega (arith, address-outside (up (from .0) (q .align .0)) u rounded e))
+
+    module _ (a : Address) (is : u ≡ checked.At a) (s : CheckedAddress) (summed : s ≡ address (a .0 + q .size .0)) where
+      at-low : a .0 ≡ up (from .0) (q .align .0)
+      at-low = address-at (up (from .0) (q .align .0)) u a rounded is .0
+
+      pub low-none-sum : s ≡ checked.Outside → to .0 < 18446744073709551616 → checked.Outside ≡ spotOf (cutLow q (from .0) (to .0))
+      low-none-sum e h = low-no (omega (arith, at-low, address-outside (a .0 + q .size .0) s summed e))
+
+      module _ (e : Address) (t : s ≡ checked.At e) where
+        pub low-past : to .0 < e .0 → checked.Outside ≡ spotOf (cutLow q (from .0) (to .0))
+        low-past h = let z = address-at (a .0 + q .size .0) s e summed t in low-no (omega (arith, at-low))
+
+        pub low-found : e .0 ≤ to .0 → checked.At a ≡ spotOf (cutLow q (from .0) (to .0))
+        unfolding cutLow
+        low-found h =
+            let z = address-at (a .0 + q .size .0) s e summed t in
+            rw (le-leb (up (from .0) (q .align .0) + q .size .0) (to .0) (omega (arith, at-low))) (ap checked.At (λ i. record { 0 = at-low i }))
+
+-- ---- the highest of a stretch
+
+less-at : (x s : ℕ) (u : CheckedAddress) (a : Address) → u ≡ difference x s → u ≡ checked.At a → (a .0 ≡ x - s) × (s ≤ x)
+unfolding difference
+less-at x s u a e f = go (leb s x) refl (sym f ∙ e)
+  where
+    go : (b : Bool) → leb s x ≡ b → checked.At a ≡ cond b (checked.At (record { 0 = x - s })) checked.Outside → (a .0 ≡ x - s) × (s ≤ x)
+    go true h e = let f : a ≡ record { 0 = x - s } = cc in (ap (λ (y : Address). y .0) f, leb-true s x h)
+    go false h e = let z : _≡_ {A = ℕ} 0 1 = cc in absurd (omega arith)
+
+less-outside : (x s : ℕ) (u : CheckedAddress) → u ≡ difference x s → u ≡ checked.Outside → x < s
+unfolding difference
+less-outside x s u e f = go (leb s x) refl (sym f ∙ e)
+  where
+    go : (b : Bool) → leb s x ≡ b → checked.Outside ≡ cond b (checked.At (record { 0 = x - s })) checked.Outside → x < s
+    go true h e = let z : _≡_ {A = ℕ} 0 1 = cc in absurd (omega arith)
+    go false h e = leb-false s x h
+
+module _ (q : Query) (from to : Address) (u : CheckedAddress) (less : u ≡ difference (to .0) (q .size .0)) where
+  pub high-none : u ≡ checked.Outside → checked.Outside ≡ spotOf (cutHigh q (from .0) (to .0))
+  unfolding cutHigh
+  high-none e = rw (lt-leb (q .size .0) (to .0) (less-outside (to .0) (q .size .0) u less e))
+
+  module _ (last : Address) (is : u ≡ checked.At last) where
+    pub high-narrow : powerOfTwo (q .align .0) ≡ true → last .0 < from .0 → checked.Outside ≡ spotOf (cutHigh q (from .0) (to .0))
+    unfolding cutHigh
+    high-narrow l h =
+        let z = less-at (to .0) (q .size .0) u last less is in
+        let y = down-le (to .0 - q .size .0) (q .align .0) (power-some (q .align .0) l) in
+        rw (le-leb (q .size .0) (to .0) (z .1), lt-leb (from .0) (down (to .0 - q .size .0) (q .align .0)) (omega arith))
+
+    module _ (a : Address) (rounded : a .0 ≡ down (last .0) (q .align .0)) where
+      place : a .0 ≡ down (to .0 - q .size .0) (q .align .0)
+      place = rounded ∙ ap (λ (x : ℕ). down x (q .align .0)) (less-at (to .0) (q .size .0) u last less is .0)
+
+      pub high-short : a .0 < from .0 → checked.Outside ≡ spotOf (cutHigh q (from .0) (to .0))
+      unfolding cutHigh
+      high-short h =
+          rw (
+            le-leb (q .size .0) (to .0) (less-at (to .0) (q .size .0) u last less is .1),
+            lt-leb (from .0) (down (to .0 - q .size .0) (q .align .0)) (omega (arith, place)),
+          )
+
+      pub high-found : from .0 ≤ a .0 → checked.At a ≡ spotOf (cutHigh q (from .0) (to .0))
+      unfolding cutHigh
+      high-found h =
+          rw (
+            le-leb (q .size .0) (to .0) (less-at (to .0) (q .size .0) u last less is .1),
+            le-leb (from .0) (down (to .0 - q .size .0) (q .align .0)) (omega (arith, place)),
+          ) (ap checked.At (λ i. record { 0 = place i }))

@@ -1,0 +1,9 @@
+pub mod Eligible
+pub mod Extremes
+pub mod Fall
+pub mod Fits
+pub mod Steps
+pub mod Stretches
+pub mod Twins
+pub mod Walks
+pub mod Window

@@ -1,0 +1,47 @@
+-- Which addresses a search over free runs may give; the lowest and the highest number. Assumes nothing.
+use Prim.Native.Nat.{ℕ, zero, suc, _+_, _%_}
+use mathlib.Core.Bool.{Bool, cond, _&&_, _||_}
+use mathlib.Core.List.{List}
+use mathlib.Core.Option.{Option, none, some}
+use lib.Dec.{leb, eqb}
+use Rattle.regions.specs.declared.Tag.{Tag}
+use Rattle.regions.specs.declared.Region.{Region}
+use Rattle.regions.specs.Runs.{inOne}
+use Rattle.runs.specs.declared.Query.{Query}
+
+-- what a call asks for, by its numbers
+abbrev pub query : ℕ → ℕ → ℕ → ℕ → ℕ → Query
+query size align start end node =
+    record { size = record { 0 = size }; align = record { 0 = align }; start = record { 0 = start }; end = record { 0 = end }; node = node }
+
+-- ---- the lowest and the highest number below n at which p holds
+
+abbrev pub orElse : {A : Type 0} → Option A → Option A → Option A
+orElse none o = o
+orElse (some a) o = some a
+
+unfoldable pub lowest : (ℕ → Bool) → ℕ → Option ℕ
+lowest p zero = none
+lowest p (suc n) = orElse (lowest p n) (cond (p n) (some n) none)
+
+unfoldable pub highest : (ℕ → Bool) → ℕ → Option ℕ
+highest p zero = none
+highest p (suc n) = cond (p n) (some n) (highest p n)
+
+-- ---- eligible
+
+-- node n is the one asked for; 0xFFFFFFFF means any
+abbrev pub asked : ℕ → ℕ → Bool
+asked node n = eqb node 4294967295 || eqb n node
+
+-- a tag of the node asked for; and what a query asks of a tag
+abbrev pub onNode : ℕ → Tag → Bool
+onNode node t = asked node (t .node)
+
+abbrev pub asks : Query → Tag → Bool
+asks q t = onNode (q .node) t
+
+-- document 01's eligible: a multiple of the alignment, start ≤ a, a + size ≤ end, and the size addresses from a in one free run
+unfoldable pub eligible : Query → List Region → ℕ → Bool
+eligible q runs a =
+    eqb (a % q .align .0) 0 && ((leb (q .start .0) a && leb (a + q .size .0) (q .end .0)) && inOne (asks q) (q .size .0) a runs)

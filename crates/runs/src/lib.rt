@@ -1,0 +1,15 @@
+// The free runs of two tables, lent as parts of the block: what is asked of them, and the walks that find it.
+use address::Address;
+use address::Size;
+
+pub mod fit;
+pub mod walk;
+
+// A size, an alignment, a window from `start` up to, not including, `end`, and a node (0xFFFFFFFF: any).
+pub struct Query {
+    pub size: Size,
+    pub align: Size,
+    pub start: Address,
+    pub end: Address,
+    pub node: u32,
+}

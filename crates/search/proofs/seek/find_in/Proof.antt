@@ -1,0 +1,34 @@
+-- `search::seek::find_in` meets its contract.
+use Rattle.search.proofs.InBlock.{header-room, ready-window, find-low, find-high}
+use borrow.Author.Needs.{needs}
+use Rattle.search.proofs.seek.find_in.Statement.{statement}
+use Rattle.search.proofs.seek.find_in.Tie as tie
+
+get-header-requires : tie.Need-get-header-requires
+get-header-requires c κs = search (header-room, needs)
+
+window-requires : tie.Need-window-requires
+window-requires c κs = search needs
+
+lowest-in-requires : tie.Need-lowest-in-requires
+lowest-in-requires c κs = search (ready-window, needs)
+
+returns : tie.Need-returns
+returns c = search (find-low, needs)
+
+highest-in-requires : tie.Need-highest-in-requires
+highest-in-requires c κs = search (ready-window, needs)
+
+returns-2 : tie.Need-returns-2
+returns-2 c = search (find-high, needs)
+
+pub find-in-spec : {M : Type 1} → statement M
+find-in-spec =
+    tie.close
+    (tie.spec
+    get-header-requires
+    window-requires
+    lowest-in-requires
+    returns
+    highest-in-requires
+    returns-2)

@@ -1,0 +1,139 @@
+// The search of a good block: its header says what to do, and its two tables are lent as parts of it.
+use address::Address;
+use address::Size;
+use block::current_layout;
+use block::get_header;
+use runs::Query;
+use runs::fit::Place;
+use runs::walk::walk_high;
+use runs::walk::walk_low;
+ghost use mathlib.Core.Path.{_≡_};
+ghost use mathlib.Core.Bool.{true};
+ghost use Prim.Native.Nat.{_≤_};
+ghost use lib.ListN.{length};
+ghost use Rattle.block.specs.Block.{current, contents, good};
+ghost use Rattle.search.specs.Search.{boundedEnd, window as windowOf};
+ghost use Rattle.runs.specs.Steps.{placeOf};
+ghost use Rattle.search.specs.Steps.{Ready, partsOf, lowestOf, highestOf, foundHit, nextQuery, nextHit};
+
+// Where a search with this end ends in a block with this limit: 0 means the limit, and a named end is cut to it.
+fn bounded_end(limit: Address, end: Address) -> Address
+    ensures { λ r. ⌜ r .0 ≡ boundedEnd (limit .0) (end .0) ⌝ }
+{
+    if end.0 == 0 {
+        return limit;
+    }
+    end.min(limit)
+}
+
+// What is searched in a block with this limit: start is raised to at least 4096, then the bounded end to at least start.
+fn window(limit: Address, q: Query) -> Query
+    ensures { λ r. ⌜ r ≡ windowOf (limit .0) q ⌝ }
+{
+    let size = q.size;
+    let align = q.align;
+    let first = q.start;
+    let last = q.end;
+    let start = first.max(Address(4096));
+    let bound = bounded_end(limit, last);
+    let end = bound.max(start);
+    Query {
+        size,
+        align,
+        start,
+        end,
+        node: q.node,
+    }
+}
+
+// Where the block's tables lie, from byte 80 to `middle` and from there to `end`, and how many records each has.
+struct Parts {
+    middle: usize,
+    end: usize,
+    memory: usize,
+    taken: usize,
+}
+
+fn parts_of(block: &[u8]) -> Parts
+    requires { ⌜ 80 ≤ length (now block) ⌝ }
+    ensures { λ r. ⌜ r ≡ partsOf (now (block .entry)) ⌝ }
+{
+    let layout = current_layout();
+    let h = get_header(block);
+    let middle = 80 + 24 * (layout.memory as usize);
+    Parts {
+        middle,
+        end: middle + 24 * (layout.taken as usize),
+        memory: h.memory.count as usize,
+        taken: h.taken.count as usize,
+    }
+}
+
+// The lowest eligible address of the block, with its run.
+fn lowest_in(block: &[u8], q: Query) -> Place
+    requires { ⌜ Ready (now block) q ⌝ }
+    ensures { λ r. ⌜ r ≡ placeOf (lowestOf (contents current (now (block .entry))) q) ⌝ }
+{
+    let p = parts_of(block);
+    let middle = p.middle;
+    let end = p.end;
+    walk_low(
+        &block[80..middle],
+        p.memory,
+        &block[middle..end],
+        p.taken,
+        q,
+    )
+}
+
+// The highest eligible address of the block, with its run.
+fn highest_in(block: &[u8], q: Query) -> Place
+    requires { ⌜ Ready (now block) q ⌝ }
+    ensures { λ r. ⌜ r ≡ placeOf (highestOf (contents current (now (block .entry))) q) ⌝ }
+{
+    let p = parts_of(block);
+    let middle = p.middle;
+    let end = p.end;
+    walk_high(
+        &block[80..middle],
+        p.memory,
+        &block[middle..end],
+        p.taken,
+        q,
+    )
+}
+
+// What find finds, with its run: bottom-up (direction 1) the lowest eligible address, top-down the highest.
+pub fn find_in(block: &[u8], q: Query) -> Place
+    requires { ⌜ Ready (now block) q ⌝ }
+    ensures { λ r. ⌜ r ≡ placeOf (foundHit (contents current (now (block .entry))) q) ⌝ }
+{
+    let h = get_header(block);
+    let limit = h.limit;
+    let w = window(limit, q);
+    if h.direction == 1 {
+        return lowest_in(block, w);
+    }
+    highest_in(block, w)
+}
+
+// What next free asks: one address from `p` on.
+pub fn next_query(p: Address, node: u32) -> Query
+    ensures { λ r. ⌜ r ≡ nextQuery p node ⌝ }
+{
+    Query {
+        size: Size(1),
+        align: Size(1),
+        start: p,
+        end: Address(0xFFFF_FFFF_FFFF_FFFF),
+        node,
+    }
+}
+
+// The lowest address at or above `p` in a free run of the node asked for, with that run: the rising walk for one address.
+pub fn next_in(block: &[u8], p: Address, node: u32) -> Place
+    requires { ⌜ good current (now block) ≡ true ⌝ }
+    ensures { λ r. ⌜ r ≡ placeOf (nextHit (contents current (now (block .entry))) (p .0) node) ⌝ }
+{
+    lowest_in(block, next_query(p, node))
+}

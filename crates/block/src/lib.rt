@@ -16,6 +16,13 @@ ghost use lib.Seq.{sets};
 ghost use Rattle.block.specs.Block.{current, capacity as capacityOf, offset, entryBytes, entriesBytes, settingsBytes, totalsBytes, headerBytes, readHeader, sameBytes, good};
 ghost use Rattle.block.specs.Checks.{Small, withTotals, tallyOf, withTally};
 
+// The layout that the commands work on: how many records each table has room for, and the length of the block.
+pub const MEMORY: u32 = 128;
+
+pub const TAKEN: u32 = 128;
+
+pub const LENGTH: usize = 6224;
+
 // Which edition, and how many records each table has room for.
 pub struct Layout {
     pub edition: u32,
@@ -97,8 +104,8 @@ pub fn current_layout() -> Layout
 {
     Layout {
         edition: 1,
-        memory: 128,
-        taken: 128,
+        memory: MEMORY,
+        taken: TAKEN,
     }
 }
 

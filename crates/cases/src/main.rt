@@ -1,5 +1,6 @@
 // The worked cases of document 01, run on real blocks through the exported functions. Each call is written out with the number answered and, for a
 // search, the two numbers of its slip; a table is written as its count, its total and its records. `stdout` has the lines as document 01 gives them.
+use block::LENGTH;
 use libc::STDOUT_FILENO;
 use regions::bytes::get_u32;
 use regions::bytes::get_u64;
@@ -60,18 +61,18 @@ fn say_count(count: u32, total: u64) {
     say(b"\n");
 }
 
-fn say_memory(block: &[u8; 6224]) {
+fn say_memory(block: &[u8; LENGTH]) {
     say(b"memory:");
     say_count(get_u32(block, 16), get_u64(block, 56));
 }
 
-fn say_taken(block: &[u8; 6224]) {
+fn say_taken(block: &[u8; LENGTH]) {
     say(b"taken:");
     say_count(get_u32(block, 32), get_u64(block, 64));
 }
 
 // The record that stands at an offset of the block.
-fn say_record(block: &[u8; 6224], at: usize) {
+fn say_record(block: &[u8; LENGTH], at: usize) {
     if at <= 6200 {
         say(b"  ");
         say_range(get_u64(block, at), get_u64(block, at + 8));
@@ -80,7 +81,7 @@ fn say_record(block: &[u8; 6224], at: usize) {
     }
 }
 
-fn say_same(before: &[u8; 6224], after: &[u8; 6224]) {
+fn say_same(before: &[u8; LENGTH], after: &[u8; LENGTH]) {
     if check::same(before, after) {
         say(b"no byte changed\n");
     } else {
@@ -179,7 +180,7 @@ fn with_m_and_taken(block: &mut [u8]) {
 }
 
 fn case_1() {
-    let mut block = [0u8; 6224];
+    let mut block = [0u8; LENGTH];
     say(b"case 1\n");
     with_m(&mut block);
     bottom_up(&mut block);
@@ -188,7 +189,7 @@ fn case_1() {
     find(&block, 0x1000, 0x1000);
 }
 
-fn case_2(block: &mut [u8; 6224]) {
+fn case_2(block: &mut [u8; LENGTH]) {
     say(b"case 2\n");
     with_m(block);
     top_down(block);
@@ -198,7 +199,7 @@ fn case_2(block: &mut [u8; 6224]) {
     say_record(block, 3152);
 }
 
-fn case_3(block: &mut [u8; 6224]) {
+fn case_3(block: &mut [u8; LENGTH]) {
     say(b"case 3, from case 2\n");
     free(block, 0x1E800, 0x800);
     say_taken(block);
@@ -209,13 +210,13 @@ fn case_3(block: &mut [u8; 6224]) {
 }
 
 fn cases_2_and_3() {
-    let mut block = [0u8; 6224];
+    let mut block = [0u8; LENGTH];
     case_2(&mut block);
     case_3(&mut block);
 }
 
 fn case_4() {
-    let mut block = [0u8; 6224];
+    let mut block = [0u8; LENGTH];
     say(b"case 4\n");
     with_m_and_taken(&mut block);
     bottom_up(&mut block);
@@ -227,7 +228,7 @@ fn case_4() {
 }
 
 fn case_5() {
-    let mut block = [0u8; 6224];
+    let mut block = [0u8; LENGTH];
     say(b"case 5\n");
     fresh(&mut block);
     add(&mut block, 0x1000, 0x1000, 0);
@@ -236,7 +237,7 @@ fn case_5() {
 }
 
 fn case_6() {
-    let mut block = [0u8; 6224];
+    let mut block = [0u8; LENGTH];
     say(b"case 6\n");
     fresh(&mut block);
     add(&mut block, 0, 0x2000, 0);
@@ -246,7 +247,7 @@ fn case_6() {
 }
 
 fn case_7() {
-    let mut block = [0u8; 6224];
+    let mut block = [0u8; LENGTH];
     say(b"case 7\n");
     fresh(&mut block);
     add(&mut block, TOP - 4095, 0x2000, 0);
@@ -260,7 +261,7 @@ fn case_7() {
 }
 
 fn case_8() {
-    let mut block = [0u8; 6224];
+    let mut block = [0u8; LENGTH];
     say(b"case 8\n");
     fresh(&mut block);
     add(&mut block, TOP - 4094, 0xFFE, 0);
@@ -273,7 +274,7 @@ fn case_8() {
 }
 
 fn case_9() {
-    let mut block = [0u8; 6224];
+    let mut block = [0u8; LENGTH];
     say(b"case 9\n");
     fresh(&mut block);
     add(&mut block, 0x1000, 0x1000, 0);
@@ -285,7 +286,7 @@ fn case_9() {
 }
 
 fn case_9_other_order() {
-    let mut block = [0u8; 6224];
+    let mut block = [0u8; LENGTH];
     say(b"case 9, the other order\n");
     fresh(&mut block);
     add(&mut block, 0, 0x3000, 1);
@@ -295,7 +296,7 @@ fn case_9_other_order() {
 }
 
 fn case_10() {
-    let mut block = [0u8; 6224];
+    let mut block = [0u8; LENGTH];
     say(b"case 10\n");
     fresh(&mut block);
     add(&mut block, 0x10000, 0x8000, 0);
@@ -329,7 +330,7 @@ fn with_128(block: &mut [u8]) {
 }
 
 fn case_11_add() {
-    let mut block = [0u8; 6224];
+    let mut block = [0u8; LENGTH];
     say(b"case 11\n");
     with_128(&mut block);
     say_memory(&block);
@@ -343,7 +344,7 @@ fn case_11_add() {
 }
 
 fn case_11_remove() {
-    let mut block = [0u8; 6224];
+    let mut block = [0u8; LENGTH];
     with_128(&mut block);
     say_memory(&block);
     let before = block;
@@ -356,7 +357,7 @@ fn case_11_remove() {
 }
 
 fn case_12() {
-    let mut block = [0u8; 6224];
+    let mut block = [0u8; LENGTH];
     say(b"case 12\n");
     with_m_and_taken(&mut block);
     next_free(&block, 0x18800);

@@ -9,7 +9,7 @@ use lib.ListN.{length, take, drop}
 use lib.Seq.{take-all, drop-length}
 use borrow.Author.Tests.{eq-eqb, ne-eqb, le-leb, lt-leb, eqb-true, eqb-false}
 use Rattle.block.specs.declared.Layout.{Layout}
-use Rattle.block.specs.Block.{current, good}
+use Rattle.block.specs.Block.{current, blockLength, good}
 use Rattle.tables.specs.Commands.{Outcome, outcome, unless}
 use Rattle.block.proofs.Blocks.{good-length, good-here, bad-here}
 use Rattle.intake.specs.E820.{entries, readable, entrySteps, intakeE820}
@@ -47,7 +47,7 @@ module _ (L : Layout) (w : L ≡ current) (b : List ℕ) (g : Bool) (q : g ≡ g
     pub is-good : good current b ≡ true
     is-good = good-here L w b g q h
 
-    pub block-length : length b ≡ 6224
+    pub block-length : length b ≡ blockLength current
     block-length = good-length current b is-good
 
     pub ragged : (length r % 20 ≡ 0 → ⊥) → outcome 10 b ≡ intakeE820 current r b

@@ -1,6 +1,7 @@
 // E820 reports: entries of 20 bytes, u64 base, u64 length, u32 kind, little-endian.
 use address::Address;
 use address::Size;
+use block::LENGTH;
 use block::block_good;
 use block::current_layout;
 use records::table::copy_front;
@@ -13,13 +14,10 @@ ghost use mathlib.Core.Path.{_≡_};
 ghost use Prim.Native.Nat.{_+_, _≤_};
 ghost use lib.ListN.{length, drop};
 ghost use mathlib.Core.Bool.{true};
-ghost use Rattle.block.specs.Block.{current, good};
+ghost use Rattle.block.specs.Block.{current, blockLength, good};
 ghost use Rattle.tables.specs.Commands.{outcome};
 ghost use Rattle.intake.specs.E820.{readEntry, entries, becomes as becomesOf, takeEntry, entrySteps, intakeE820};
 ghost use Rattle.intake.specs.Turns.{inTurn, wholly};
-
-// The length of a block.
-const BLOCK: usize = 6224;
 
 // One range of the report.
 pub struct Entry {
@@ -108,14 +106,14 @@ fn take_in_turn(block: &mut [u8], report: &[u8]) -> u32
 
 // The same, whole or not at all: a copy of the block is kept on the stack, and put back after a refusal.
 fn take_wholly(block: &mut [u8], report: &[u8]) -> u32
-    requires { ⌜ (length (now block) ≡ 6224) × (good current (now block) ≡ true) ⌝ }
+    requires { ⌜ (length (now block) ≡ blockLength current) × (good current (now block) ≡ true) ⌝ }
     ensures { λ r. ⌜ outcome r (now (block .exit)) ≡ wholly (entrySteps current (entries (now (report .entry)))) (now (block .entry)) ⌝ }
 {
-    let mut kept = [0u8; BLOCK];
-    copy_front(&mut kept, block, BLOCK);
+    let mut kept = [0u8; LENGTH];
+    copy_front(&mut kept, block, LENGTH);
     let number = take_in_turn(block, report);
     if number != 0 {
-        copy_front(block, &kept, BLOCK);
+        copy_front(block, &kept, LENGTH);
         return number;
     }
     0

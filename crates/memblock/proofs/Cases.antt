@@ -19,7 +19,7 @@ use Rattle.regions.specs.Steps.{stretch}
 use Rattle.regions.proofs.Push.{same-true as tags-equal}
 use Rattle.regions.proofs.Count.{sizes}
 use Rattle.regions.proofs.Good.{good-rises, total-is-sizes}
-use Rattle.block.specs.Block.{current, Contents, listOf, freshContents, blockBytes, contents, sameBytes}
+use Rattle.block.specs.Block.{capacity, current, Contents, listOf, freshContents, blockBytes, contents, sameBytes}
 use Rattle.block.proofs.Same.{same-true}
 use Rattle.block.proofs.Blocks.{lists-ok}
 use Rattle.block.proofs.Reading.{Spellable, contents-spelled}
@@ -176,7 +176,7 @@ all-right (c ∷ cs) e =
     (right-holds c (p .0), all-right cs (p .1))
 
 cases-right : allRight cases ≡ true
-unfolding allRight right sameSlips sameRegions sameRegion cases allPlayable plays ended play playable sameBytes sizes powerBelow fits rises legal legalTag change roundEach bytes push join stretch table.walk table.update cutLow cutHigh fitLow fitHigh walks.gaps walks.walk walks.onto walks.falling
+unfolding allRight right sameSlips sameRegions sameRegion cases capacity allPlayable plays ended play playable sameBytes sizes powerBelow fits rises legal legalTag change roundEach bytes push join stretch table.walk table.update cutLow cutHigh fitLow fitHigh walks.gaps walks.walk walks.onto walks.falling
 cases-right = refl
 
 -- the marked cases

@@ -8,10 +8,10 @@ use native.Mathlib.Omega.{arith}
 use lib.Dec.{leb, ltb, eqb}
 use lib.ListN.{length, replicate}
 use lib.Pow.{pow-pos}
-use borrow.Author.Tests.{leb-true, ltb-true, eqb-false, not-true}
+use borrow.Author.Tests.{leb-true, ltb-true, eqb-false, not-true, eqb-true}
 use Rattle.address.specs.Numbers.{powerOfTwo}
 use Rattle.address.proofs.Tests.{both}
-use Rattle.address.proofs.Powers.{power-is}
+use Rattle.address.proofs.Powers.{power-is, power-some}
 use Rattle.regions.specs.declared.Kind.{Kind}
 use Rattle.regions.specs.declared.Kind.the-variants.{Memory, Taken}
 use Rattle.regions.specs.declared.Region.{Region}
@@ -32,13 +32,13 @@ use Rattle.tables.specs.Commands.{outcome, store, tag, changeRange, set, trim}
 use Rattle.block.proofs.Blocks.{lists-ok}
 use Rattle.block.proofs.Reading.{Spellable, contents-spelled, good-spelled-block}
 use Rattle.block.proofs.Layouts.{small-current}
-use Rattle.tables.proofs.Storing.{capacity-small}
 use Rattle.runs.specs.declared.Query.{Query}
 use Rattle.search.specs.Search.{window, found}
-use Rattle.search.specs.Answers.{Answer, answer, slipOf, nodeKnown, asking, find, findAnswer, allocate, allocateAnswer, reserved}
+use Rattle.search.specs.Answers.{Answer, answer, slipOf, refusal, checkNumber, asking, find, findAnswer, allocate, allocateAnswer, reserved}
 use Rattle.regions.specs.declared.Run.{Run}
 use Rattle.runs.specs.Steps.{Hit, hitOf, lowestIn, highestIn}
 use Rattle.search.proofs.Found.{eligible-below, found-eligible}
+use Rattle.search.proofs.Answering.{number-ready}
 use Rattle.runs.proofs.Twins.{Up, Down, walk, falling}
 use Rattle.runs.proofs.Walks.{walk-lowest, walk-highest}
 use Rattle.memblock.specs.Calls.{Command, Call, toFresh, toSet, toCommand, toTrim, toFind, toNextFree, toAllocate, toIntake, answerOf, answers}
@@ -48,13 +48,13 @@ use Rattle.memblock.proofs.Steps.{changeOf, legalVerb, outcome-is}
 -- ---- which contents can stand in a block, computed
 
 abbrev goodListed : Kind → List Region → Bool
-goodListed k xs = leb (length xs) 128 && (rises 0 Absent 18446744073709551615 xs && legal k xs)
+goodListed k xs = leb (length xs) (capacity current k) && (rises 0 Absent 18446744073709551615 xs && legal k xs)
 
 abbrev pub sound : Contents → Bool
 sound s = (leb (s .direction) 1 && (goodListed Memory (s .memory) && goodListed Taken (s .taken))) && ltb (s .limit) 18446744073709551616
 
 pub sound-spellable : (s : Contents) → sound s ≡ true → Spellable current s
-unfolding goodContents goodTable goodList capacity
+unfolding goodContents goodTable goodList
 sound-spellable s e =
     let p = both (leb (s .direction) 1 && (goodListed Memory (s .memory) && goodListed Taken (s .taken))) (ltb (s .limit) 18446744073709551616) e in
     record { good = rw top-is (p .0); limit = ltb-true (s .limit) 18446744073709551616 (p .1) }
@@ -74,7 +74,7 @@ abbrev edited : Contents → Kind → Change → ℕ → ℕ → List Region
 edited s k c base size = update (change c) base (min (base + size) 18446744073709551615) (listOf s k)
 
 abbrev kept : Contents → Kind → List Region → List ℕ → List ℕ → Played
-kept s k xs done full = cond (leb (length xs) 128) (played 0 (withList s k xs) done) (played 6 s full)
+kept s k xs done full = cond (leb (length xs) (capacity current k)) (played 0 (withList s k xs) done) (played 6 s full)
 
 -- what find finds
 abbrev hitAt : Option Hit → Option ℕ
@@ -107,7 +107,7 @@ play (toIntake report) s = played 0 s []
 
 -- the call is one that this twin works out: no check refuses it
 abbrev asks : Query → List ℕ → Bool
-asks q slip = eqb (length slip) 16 && (nodeKnown (q .node) && (powerOfTwo (q .align .0) && not (eqb (q .size .0) 0)))
+asks q slip = eqb (length slip) 16 && eqb (refusal q) 0
 
 unfoldable pub playable : Call → Bool
 playable toFresh = false
@@ -144,9 +144,9 @@ module _ (s : Contents) (sp : Spellable current s) where
 
   range-is : (k : Kind) (c : Change) (base size : ℕ) → base ≤ 18446744073709551615
       → changeRange current k c base size (blockBytes current s)
-      ≡ cond (leb (length (edited s k c base size)) 128) (outcome 0 (blockBytes current (withList s k (edited s k c base size)))) (outcome 6 (blockBytes current s))
+      ≡ cond (leb (length (edited s k c base size)) (capacity current k)) (outcome 0 (blockBytes current (withList s k (edited s k c base size)))) (outcome 6 (blockBytes current s))
   unfolding store
-  range-is k c base size h = rw (says, edit-is k c base size h, capacity-small k)
+  range-is k c base size h = rw (says, edit-is k c base size h)
 
   -- ---- what find finds, by the walks
 
@@ -171,7 +171,7 @@ module _ (s : Contents) (sp : Spellable current s) where
   unfolding answerOf play
   command-played c e h =
       rw (outcome-is (c .verb) (c .base) (c .size) (blockBytes current s), isGood, e, range-is (table (c .verb)) (changeOf (c .verb)) (c .base) (c .size) h)
-      (go (leb (length (edited s (table (c .verb)) (changeOf (c .verb)) (c .base) (c .size))) 128))
+      (go (leb (length (edited s (table (c .verb)) (changeOf (c .verb)) (c .base) (c .size))) (capacity current (table (c .verb)))))
     where
       go : (t : Bool)
           → answer (cond t (outcome 0 (blockBytes current (withList s (table (c .verb)) (edited s (table (c .verb)) (changeOf (c .verb)) (c .base) (c .size))))) (outcome 6 (blockBytes current s)) .number)
@@ -189,13 +189,10 @@ module _ (s : Contents) (sp : Spellable current s) where
 
   asked-is : (q : Query) (slip : List ℕ) → asks q slip ≡ true → (a : Answer) → (asking current q (blockBytes current s) slip a ≡ a) × ((0 < q .size .0) × (0 < q .align .0))
   asked-is q slip e a =
-      let n : Bool = not (eqb (q .size .0) 0) in
-      let p = both (eqb (length slip) 16) (nodeKnown (q .node) && (powerOfTwo (q .align .0) && n)) e in
-      let r = both (nodeKnown (q .node)) (powerOfTwo (q .align .0) && n) (p .1) in
-      let t = both (powerOfTwo (q .align .0)) n (r .1) in
-      let w = power-is 64 (q .align .0) (t .0) in
-      let z = eqb-false (q .size .0) 0 (not-true (eqb (q .size .0) 0) (t .1)) in
-      (rw (p .0, isGood, r .0, t .0, t .1), (omega arith, omega (arith, pow-pos (w .0), w .2)))
+      let p = both (eqb (length slip) 16) (eqb (refusal q) 0) e in
+      let n : checkNumber current q (blockBytes current s) ≡ 0 = rw isGood (eqb-true (refusal q) 0 (p .1)) in
+      let t = number-ready current (blockBytes current s) q n in
+      (rw (p .0, isGood, p .1), (t .1, power-some (q .align .0) (t .0 .1)))
 
   find-played : (q : Query) (slip : List ℕ) → asks q slip ≡ true → answerOf (toFind q slip) (blockBytes current s) ≡ told (play (toFind q slip) s)
   unfolding answerOf play find
@@ -225,7 +222,7 @@ module _ (s : Contents) (sp : Spellable current s) where
       go none h i = refl
       go (some x) h i =
           let l = eligible-below (window (s .limit) q) s x i (found-eligible s q x h) in
-          rw (range-is Taken (Fill (tag 0 0)) x (q .size .0) (omega (arith, top-is))) (by x (leb (length (edited s Taken (Fill (tag 0 0)) x (q .size .0))) 128))
+          rw (range-is Taken (Fill (tag 0 0)) x (q .size .0) (omega (arith, top-is))) (by x (leb (length (edited s Taken (Fill (tag 0 0)) x (q .size .0))) (capacity current Taken)))
 
 -- ---- a list of calls
 

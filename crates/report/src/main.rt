@@ -1,5 +1,6 @@
 // Takes the E820 report in the file that its argument names in on a fresh block, and prints the number answered and every record of both tables: a
 // line each, in decimal, the fields in their order with one space between.
+use block::LENGTH;
 use block::get_header;
 use libc::STDERR_FILENO;
 use libc::STDOUT_FILENO;
@@ -69,7 +70,7 @@ fn say_table(block: &[u8], kind: Kind)
 
 // Takes a report in and prints what came of it.
 fn take_in(report: &[u8]) {
-    let mut block = [0u8; 6224];
+    let mut block = [0u8; LENGTH];
     memblock_fresh(&mut block);
     let number = memblock_intake_e820(&mut block, report);
     say_number(number as u64);

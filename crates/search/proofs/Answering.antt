@@ -8,7 +8,7 @@ use native.Mathlib.Omega.{arith}
 use lib.Dec.{eqb, lit<}
 use lib.ListN.{length, take, drop, replicate, length-append}
 use lib.Seq.{sets, sets-eq, drop-length}
-use borrow.Author.Tests.{eq-eqb, ne-eqb, le-leb, lt-leb, eqb-false, not-true, not-false}
+use borrow.Author.Tests.{eq-eqb, ne-eqb, le-leb, lt-leb, eqb-true, eqb-false, not-true, not-false}
 use Rattle.address.specs.Numbers.{powerOfTwo}
 use Rattle.address.specs.declared.Address.{Address}
 use Rattle.address.proofs.Powers.{power-of}
@@ -26,9 +26,9 @@ use Rattle.regions.specs.declared.Run.{Run}
 use Rattle.runs.specs.declared.fit.Place.{Place}
 use Rattle.runs.specs.declared.fit.Place.the-variants.{Here, Nowhere}
 use Rattle.search.specs.Search.{window, runsOf, found, lowestFree}
-use Rattle.search.specs.Answers.{Answer, answer, refuse, slipOf, nodeKnown, asking, find, findAnswer, nextFree, nextFreeAnswer}
+use Rattle.search.specs.Answers.{Answer, answer, refuse, slipOf, nodeKnown, checkNumber, asking, find, findAnswer, nextFree, nextFreeAnswer}
 use Rattle.runs.specs.Steps.{hitOf, placeOf}
-use Rattle.search.specs.Steps.{Ready, foundHit, nextQuery, nextHit, checked}
+use Rattle.search.specs.Steps.{Ready, foundHit, nextQuery, nextHit, askedOf, checked}
 use Rattle.change.specs.Steps.{Vacant}
 use Rattle.search.proofs.Found.{eligible-below, eligible-vacant, found-eligible}
 
@@ -65,23 +65,41 @@ module _ (L : Layout) (is : L ≡ current) (b : List ℕ) (q : Query) (g : Bool)
         unfolding checked
         check-fine e = rw (good-here L is b g x h, ← y, not-false k i, ← z, not-false p j, ne-eqb (q .size .0) 0 e)
 
--- the checks as tests: on the block, the node, the alignment, and on a size of 0
-abbrev verdict : Bool → Bool → Bool → Bool → Asked
-verdict g k p z = cond g (cond k (cond p (cond z (Refused 4) Fine) (Refused 3)) (Refused 2)) (Refused 1)
+-- a check that answers Fine has the number 0
+number-fine : (n : ℕ) (c : Asked) → c ≡ askedOf n → c ≡ Fine → n ≡ 0
+number-fine n c e f = go (eqb n 0) refl (sym f ∙ e)
+  where
+    go : (t : Bool) → eqb n 0 ≡ t → Fine ≡ cond t Fine (Refused n) → n ≡ 0
+    go true i j = eqb-true n 0 i
+    go false i j = let y : _≡_ {A = ℕ} 0 1 = cc in absurd (omega arith)
 
-fine-is : (g k p z : Bool) → Fine ≡ verdict g k p z → ((g ≡ true) × (p ≡ true)) × (z ≡ false)
-fine-is false k p z e = let y : _≡_ {A = ℕ} 0 1 = cc in absurd (omega arith)
-fine-is true false p z e = let y : _≡_ {A = ℕ} 0 1 = cc in absurd (omega arith)
-fine-is true true false z e = let y : _≡_ {A = ℕ} 0 1 = cc in absurd (omega arith)
-fine-is true true true true e = let y : _≡_ {A = ℕ} 0 1 = cc in absurd (omega arith)
-fine-is true true true false e = ((refl, refl), refl)
+number-refused : (n m : ℕ) (c : Asked) → c ≡ askedOf n → c ≡ Refused m → (eqb n 0 ≡ false) × (m ≡ n)
+number-refused n m c e f = go (eqb n 0) refl (sym f ∙ e)
+  where
+    go : (t : Bool) → eqb n 0 ≡ t → Refused m ≡ cond t Fine (Refused n) → (eqb n 0 ≡ false) × (m ≡ n)
+    go true i j = let y : _≡_ {A = ℕ} 0 1 = cc in absurd (omega arith)
+    go false i j = (i, cc)
+
+-- the number is 0 where the block is good, the node known, the alignment a power of two and the size not 0
+passed : (g k p z : Bool) → _≡_ {A = ℕ} (cond g (cond k (cond p (cond z 4 0) 3) 2) 1) 0 → ((g ≡ true) × (k ≡ true)) × ((p ≡ true) × (z ≡ false))
+passed false k p z e = absurd (omega arith)
+passed true false p z e = absurd (omega arith)
+passed true true false z e = absurd (omega arith)
+passed true true true true e = absurd (omega arith)
+passed true true true false e = ((refl, refl), (refl, refl))
+
+-- what the number 0 says of a query and a block
+pub number-ready : (L : Layout) (b : List ℕ) (q : Query) → checkNumber L q b ≡ 0 → ((good L b ≡ true) × (powerOfTwo (q .align .0) ≡ true)) × (0 < q .size .0)
+number-ready L b q e =
+    let t = passed (good L b) (nodeKnown (q .node)) (powerOfTwo (q .align .0)) (eqb (q .size .0) 0) e in
+    let z = eqb-false (q .size .0) 0 (t .1 .1) in
+    ((t .0 .0, t .1 .0), omega arith)
 
 pub fine-ready : (b : List ℕ) (q : Query) (c : Asked) → c ≡ checked q b → c ≡ Fine → Ready b q
 unfolding checked
 fine-ready b q c e f =
-    let t = fine-is (good current b) (nodeKnown (q .node)) (powerOfTwo (q .align .0)) (eqb (q .size .0) 0) (sym f ∙ e) in
-    let z = eqb-false (q .size .0) 0 (t .1) in
-    record { good = t .0 .0; size = omega arith; align = t .0 .1 }
+    let t = number-ready current b q (number-fine (checkNumber current q b) c e f) in
+    record { good = t .0 .0; size = t .1; align = t .0 .1 }
 
 -- ---- the slip
 
@@ -101,26 +119,12 @@ module _ (b s : List ℕ) (q : Query) (l : length s ≡ 16) (c : Asked) (is : c 
   pub refused : (n : ℕ) → c ≡ Refused n → refuse n b ≡ asking current q b s a
   unfolding checked
   refused n f =
-      rw (eq-eqb (length s) 16 l) (go (good current b) (nodeKnown (q .node)) (powerOfTwo (q .align .0)) (eqb (q .size .0) 0) (sym f ∙ is))
-    where
-      go : (g k p z : Bool) → Refused n ≡ verdict g k p z
-          → refuse n b ≡ cond g (cond k (cond p (cond (not z) a (refuse 4 b)) (refuse 3 b)) (refuse 2 b)) (refuse 1 b)
-      go false k p z e = let m : n ≡ 1 = cc in ap (λ (x : ℕ). refuse x b) m
-      go true false p z e = let m : n ≡ 2 = cc in ap (λ (x : ℕ). refuse x b) m
-      go true true false z e = let m : n ≡ 3 = cc in ap (λ (x : ℕ). refuse x b) m
-      go true true true true e = let m : n ≡ 4 = cc in ap (λ (x : ℕ). refuse x b) m
-      go true true true false e = let y : _≡_ {A = ℕ} 0 1 = cc in absurd (omega arith)
+      let t = number-refused (checkNumber current q b) n c is f in
+      rw (eq-eqb (length s) 16 l, t .0, t .1)
 
   pub fine : c ≡ Fine → a ≡ asking current q b s a
   unfolding checked
-  fine f = rw (eq-eqb (length s) 16 l) (go (good current b) (nodeKnown (q .node)) (powerOfTwo (q .align .0)) (eqb (q .size .0) 0) (sym f ∙ is))
-    where
-      go : (g k p z : Bool) → Fine ≡ verdict g k p z → a ≡ cond g (cond k (cond p (cond (not z) a (refuse 4 b)) (refuse 3 b)) (refuse 2 b)) (refuse 1 b)
-      go false k p z e = let y : _≡_ {A = ℕ} 0 1 = cc in absurd (omega arith)
-      go true false p z e = let y : _≡_ {A = ℕ} 0 1 = cc in absurd (omega arith)
-      go true true false z e = let y : _≡_ {A = ℕ} 0 1 = cc in absurd (omega arith)
-      go true true true true e = let y : _≡_ {A = ℕ} 0 1 = cc in absurd (omega arith)
-      go true true true false e = refl
+  fine f = rw (eq-eqb (length s) 16 l, eq-eqb (checkNumber current q b) 0 (number-fine (checkNumber current q b) c is f))
 
 -- ---- find
 
@@ -186,7 +190,14 @@ module _ (b s : List ℕ) (p : Address) (node : ℕ) where
   -- it makes the checks of find: 1 is a power of two, and a size of 1 is not 0
   next-asks : asking current (nextQuery p node) b s answered ≡ nextFree current (p .0) node b s
   unfolding nextFree
-  next-asks = let e : powerOfTwo 1 ≡ true = power-of 64 0 (lit< tt) in rw e
+  next-asks = let e : powerOfTwo 1 ≡ true = power-of 64 0 (lit< tt) in rw e (go (eqb (length s) 16) (good current b) (nodeKnown node))
+    where
+      go : (t g k : Bool) → cond t (cond (eqb (cond g (cond k 0 2) 1) 0) answered (refuse (cond g (cond k 0 2) 1) b)) (answer 8 b s)
+          ≡ cond t (cond g (cond k answered (refuse 2 b)) (refuse 1 b)) (answer 8 b s)
+      go false g k = refl
+      go true false k = refl
+      go true true false = refl
+      go true true true = refl
 
   module _ (l : length s ≡ 16) (q : Query) (k : q ≡ nextQuery p node) (c : Asked) (is : c ≡ checked q b) where
     checks : c ≡ checked (nextQuery p node) b

@@ -18,8 +18,8 @@ use Rattle.regions.specs.Bytes.{readRegions}
 use Rattle.regions.proofs.Records.{read-regions-length}
 use Rattle.block.specs.declared.Layout.{Layout}
 use Rattle.block.specs.declared.Header.{Header}
-use Rattle.block.specs.Block.{current, capacity, offset, Contents, readHeader, part, contents, good}
-use Rattle.block.proofs.Blocks.{room, lists-ok, good-contents, good-length}
+use Rattle.block.specs.Block.{current, capacity, offset, blockLength, Contents, readHeader, part, contents, good}
+use Rattle.block.proofs.Blocks.{part-length, room, lists-ok, good-contents, good-length}
 use Rattle.regions.specs.Runs.{inOne}
 use Rattle.runs.specs.declared.Query.{Query}
 use Rattle.search.specs.declared.seek.Parts.{Parts}
@@ -51,7 +51,7 @@ window-is limit q start bound end s b e =
 -- ---- the parts of a good block
 
 module _ (b : List ℕ) (q : Query) (p : Ready b q) where
-  whole : length b ≡ 6224
+  whole : length b ≡ blockLength current
   whole = good-length current b (p .good)
 
   pub header-room : 80 ≤ length b
@@ -61,8 +61,8 @@ module _ (b : List ℕ) (q : Query) (p : Ready b q) where
   unfolding contents capacity offset
   parts =
       let g = good-contents current b (p .good) in
-      let m : length (part current Memory b) ≡ 3072 = length-take-le 3072 (drop 80 b) (rw length-drop (omega (arith, whole))) in
-      let t : length (part current Taken b) ≡ 3072 = length-take-le 3072 (drop 3152 b) (rw length-drop (omega (arith, whole))) in
+      let m = part-length current b whole Memory in
+      let t = part-length current b whole Taken in
       record {
         size = p .size;
         align = p .align;

@@ -1,7 +1,7 @@
 -- The limit binds (E3): what find and allocate give ends by the block's limit, and where that is no higher than the start they give nothing. Assumes nothing.
 use Prim.Native.Nat.{ℕ, _+_, _%_, _≤_, _<_, min, max}
 use mathlib.Core.Path.{_≡_, refl, sym, ap, _∙_}
-use mathlib.Core.Bool.{Bool, true, false, cond, not}
+use mathlib.Core.Bool.{Bool, true, false, cond}
 use mathlib.Core.List.{List}
 use mathlib.Core.Option.{Option, none, some}
 use mathlib.Core.Logic.{_⊎_, inl, inr}
@@ -9,20 +9,20 @@ use native.Mathlib.Omega.{arith}
 use lib.Dec.{eqb}
 use lib.ListN.{length}
 use borrow.Author.Tests.{eqb-true, eqb-false}
-use Rattle.address.specs.Numbers.{powerOfTwo}
 use Rattle.regions.specs.declared.Region.{Region}
 use Rattle.regions.specs.declared.Kind.the-variants.{Taken}
 use Rattle.regions.specs.declared.Change.the-variants.{Fill}
 use Rattle.block.specs.declared.Layout.{Layout}
-use Rattle.block.specs.Block.{Contents, contents, good}
+use Rattle.block.specs.Block.{Contents, contents}
 use Rattle.tables.specs.Commands.{Outcome, tag, changeRange}
 use Rattle.regions.specs.Runs.{inOne}
 use Rattle.runs.specs.declared.Query.{Query}
 use Rattle.runs.specs.Eligible.{asks, eligible}
 use Rattle.search.specs.Search.{windowStart, window, runsOf, found}
-use Rattle.search.specs.Answers.{Answer, answer, refuse, slipOf, nodeKnown, asking, find, findAnswer, allocate, allocateAnswer}
+use Rattle.search.specs.Answers.{Answer, answer, refuse, slipOf, checkNumber, asking, find, findAnswer, allocate, allocateAnswer}
 use Rattle.runs.proofs.Eligible.{Lies, eligible-lies, lies-eligible}
 use Rattle.search.proofs.Found.{found-eligible}
+use Rattle.search.proofs.Answering.{number-ready}
 
 -- what the window comes to for an address: from the start and from 4096 on, ending by the limit, and by the end where one is named
 pub record Offered (limit : ℕ) (q : Query) (runs : List Region) (a : ℕ) : Type 0 where
@@ -82,18 +82,15 @@ pub record Within (limit size : ℕ) (slip : List ℕ) : Type 0 where
 module _ (L : Layout) (q : Query) (b slip : List ℕ) where
   -- past the checks there is what was to be answered, and a size
   asking-done : (a : Answer) → asking L q b slip a .number ≡ 0 → (asking L q b slip a ≡ a) × (0 < q .size .0)
-  asking-done a e = go (eqb (length slip) 16) (good L b) (nodeKnown (q .node)) (powerOfTwo (q .align .0)) (eqb (q .size .0) 0) refl e
+  asking-done a e = go (eqb (length slip) 16) (eqb (checkNumber L q b) 0) refl e
     where
-      through : Bool → Bool → Bool → Bool → Bool → Answer
-      through w g k p z = cond w (cond g (cond k (cond p (cond (not z) a (refuse 4 b)) (refuse 3 b)) (refuse 2 b)) (refuse 1 b)) (answer 8 b slip)
+      through : Bool → Bool → Answer
+      through w t = cond w (cond t a (refuse (checkNumber L q b) b)) (answer 8 b slip)
 
-      go : (w g k p z : Bool) → eqb (q .size .0) 0 ≡ z → through w g k p z .number ≡ 0 → (through w g k p z ≡ a) × (0 < q .size .0)
-      go false g k p z f h = absurd (omega (arith, h))
-      go true false k p z f h = absurd (omega (arith, h))
-      go true true false p z f h = absurd (omega (arith, h))
-      go true true true false z f h = absurd (omega (arith, h))
-      go true true true true true f h = absurd (omega (arith, h))
-      go true true true true false f h = let z = eqb-false (q .size .0) 0 f in (refl, omega arith)
+      go : (w t : Bool) → eqb (checkNumber L q b) 0 ≡ t → through w t .number ≡ 0 → (through w t ≡ a) × (0 < q .size .0)
+      go false t f h = absurd (omega (arith, h))
+      go true false f h = absurd (eqb-false (checkNumber L q b) 0 f h)
+      go true true f h = (refl, number-ready L b q (eqb-true (checkNumber L q b) 0 f) .1)
 
   -- what is answered for an address found, where it is done, names that address
   within : (answers : Option ℕ → Answer) → (answers none .number ≡ 0 → ⊥)

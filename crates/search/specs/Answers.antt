@@ -1,6 +1,6 @@
 -- What find, next free and allocate answer and leave, for all inputs: refusals in document 01's order. Assumes nothing.
 use Prim.Native.Nat.{ℕ, _+_}
-use mathlib.Core.Bool.{Bool, cond, not, _||_}
+use mathlib.Core.Bool.{Bool, cond, _||_}
 use mathlib.Core.List.{List, _++_}
 use mathlib.Core.Option.{Option, none, some}
 use lib.Dec.{leb, eqb}
@@ -44,11 +44,16 @@ withSlip b slip a = cond (eqb (length slip) 16) a (answer 8 b slip)
 abbrev pub nodeKnown : ℕ → Bool
 nodeKnown node = leb node 63 || eqb node 4294967295
 
--- the checks that find and allocate share, in their order
+-- the number that a query's own numbers get, in document 01's order: 2, 3 or 4; 0, if they pass
+abbrev pub refusal : Query → ℕ
+refusal q = cond (nodeKnown (q .node)) (cond (powerOfTwo (q .align .0)) (cond (eqb (q .size .0) 0) 4 0) 3) 2
+
+-- the number of the checks that find and allocate share: the block comes first
+abbrev pub checkNumber : Layout → Query → List ℕ → ℕ
+checkNumber L q b = cond (good L b) (refusal q) 1
+
 abbrev pub asking : Layout → Query → List ℕ → List ℕ → Answer → Answer
-asking L q b slip a =
-    withSlip b slip
-    (unless (good L b) 1 b (unless (nodeKnown (q .node)) 2 b (unless (powerOfTwo (q .align .0)) 3 b (unless (not (eqb (q .size .0) 0)) 4 b a))))
+asking L q b slip a = withSlip b slip (unless (eqb (checkNumber L q b) 0) (checkNumber L q b) b a)
 
 -- find's address and the end of its range; the block stays
 abbrev pub findAnswer : List ℕ → ℕ → Option ℕ → Answer

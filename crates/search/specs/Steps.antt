@@ -17,7 +17,7 @@ use Rattle.search.specs.declared.seek.Parts.{Parts}
 use Rattle.search.specs.declared.find.Asked.{Asked}
 use Rattle.search.specs.declared.find.Asked.the-variants.{Refused, Fine}
 use Rattle.search.specs.Search.{runsOf, found, lowestFree}
-use Rattle.search.specs.Answers.{nodeKnown}
+use Rattle.search.specs.Answers.{checkNumber}
 use Rattle.runs.specs.Steps.{Hit, hitOf, lowestIn, highestIn}
 
 -- ---- a block
@@ -50,12 +50,11 @@ nextQuery p node = record { size = record { 0 = 1 }; align = record { 0 = 1 }; s
 unfoldable pub nextHit : Contents → ℕ → ℕ → Option Hit
 nextHit s p node = hitOf (runAt (runsOf s)) (lowestFree s p node)
 
--- ---- the checks, in document 01's order
+-- ---- the checks
+
+-- what a check with this number answers
+abbrev pub askedOf : ℕ → Asked
+askedOf n = cond (eqb n 0) Fine (Refused n)
 
 unfoldable pub checked : Query → List ℕ → Asked
-checked q b =
-    cond (good current b)
-    (cond (nodeKnown (q .node))
-    (cond (powerOfTwo (q .align .0)) (cond (eqb (q .size .0) 0) (Refused 4) Fine) (Refused 3))
-    (Refused 2))
-    (Refused 1)
+checked q b = askedOf (checkNumber current q b)

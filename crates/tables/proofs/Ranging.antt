@@ -48,7 +48,7 @@ use Rattle.tables.specs.Steps.{Known}
 use Rattle.lists.specs.Steps.{Editable}
 use Rattle.tables.specs.Commands.{outcome, store, tag, changeRange}
 use Rattle.block.proofs.Blocks.{room, lists-ok, good-contents, part-zeros}
-use Rattle.tables.proofs.Storing.{capacity-small, span-part, span-room, block-stored}
+use Rattle.tables.proofs.Storing.{capacity-bound, scratch-room, span-part, span-room, block-stored}
 
 -- a legal list of the taken table has one tag
 taken-tagged : (xs : List Region) → legal Taken xs ≡ true → AllTagged (tag 0 0) xs
@@ -105,7 +105,8 @@ module _ (b : List ℕ) (g : good current b ≡ true) (k : Kind) (a e : ℕ) (ea
   -- a table's part of a good block, with its tally
   pub range-whole : Bytes b → Whole (take (e - a) (drop a b)) t
   range-whole bs =
-      let n : length (take (e - a) (drop a b)) ≡ 3072 = span-room k a e b g ea ee ∙ rw (capacity-small k) in
+      let n = span-room k a e b g ea ee in
+      let c = capacity-bound current small-current k in
       let q : t ≡ tally (listOf (contents current b) k) = et ∙ ap (λ (x : Header). tallyOf x k) (eh ∙ good-header current small-current b bs g) ∙ of k in
       record {
         table = range-table;
@@ -126,7 +127,7 @@ module _ (b : List ℕ) (g : good current b ≡ true) (k : Kind) (a e : ℕ) (ea
       go : (j : Kind) → j ≡ k → Known j (d .change) → (length (take (e - a) (drop a b)) ≤ 3072) ⊎ Uniform (d .change) (readRegions (t .count) (take (e - a) (drop a b)))
       go Memory f q =
           let n : length (take (e - a) (drop a b)) ≡ 24 * capacity current Memory = rw f (span-room k a e b g ea ee) in
-          inl (omega (arith, capacity-small Memory))
+          inl (omega (arith, scratch-room))
       go Taken f q =
           let l : legal Taken (listOf (contents current b) k) ≡ true = rw f (good-legal k (listOf (contents current b) k) isGood) in
           inr (rw list-is (known-uniform (d .change) (listOf (contents current b) k) q l))

@@ -54,10 +54,11 @@ module _ (l : Layout) (is : l ≡ current) (b : List ℕ) where
       → y ≡ sets x 0 (headerBytes l h) → outcome 0 y ≡ fresh current b
   unfolding fresh
   fresh-done f h k x y p q =
-      let n : length b ≡ 6224 = rw is at f in
+      let n : length b ≡ blockLength current = rw is at f in
       let m : length (take 80 b) ≡ 80 = length-take-le 80 b (omega arith) in
-      let z : length b - 80 ≡ 6144 = omega arith in
-      let d : drop 80 x ≡ replicate 6144 0 = rw (p, z) (drop-at (take 80 b) (replicate 6144 0) 80 m) in
+      let room : ℕ = 24 * (current .memory + current .taken) in
+      let z : length b - 80 ≡ room = omega arith in
+      let d : drop 80 x ≡ replicate room 0 = rw (p, z) (drop-at (take 80 b) (replicate room 0) 80 m) in
       let e : 80 ≤ length x = rw p (simp (length-append, length-replicate) (omega arith)) in
       let w : y ≡ blockBytes current freshContents =
       q ∙ rw (is, k) (sets-header current freshHeader x e) ∙ ap (λ (r : List ℕ). headerBytes current freshHeader ++ r) d ∙ sym (fresh-spelled current) in

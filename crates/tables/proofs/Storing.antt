@@ -28,7 +28,7 @@ use Rattle.records.specs.Totals.{tally}
 use Rattle.block.specs.Checks.{Small, withTally}
 use Rattle.block.proofs.Blocks.{table-length, part-length, room, good-contents, good-length}
 use Rattle.block.proofs.Reading.{good-header, good-tables}
-use Rattle.block.proofs.Layouts.{small-current}
+use Rattle.block.proofs.Layouts.{small-current, small-layout}
 use Rattle.block.proofs.Headers.{sets-header}
 use Rattle.address.specs.declared.CheckedSize.the-variants as Size
 
@@ -94,21 +94,26 @@ module _ (L : Layout) (small : Small L) (b : List ℕ) (bs : Bytes b) (g : good 
 
 -- ---- where the tables of a block stand now
 
-offset-small : (k : Kind) → offset current k ≤ 3152
+offset-bound : (L : Layout) → Small L → (k : Kind) → offset L k ≤ 80 + 24 * 65536
 unfolding offset
-offset-small Memory = omega arith
-offset-small Taken = omega arith
+offset-bound L s Memory = omega arith
+offset-bound L s Taken = omega (arith, s .memory)
 
-pub capacity-small : (k : Kind) → capacity current k ≡ 128
+pub capacity-bound : (L : Layout) → Small L → (k : Kind) → capacity L k ≤ 65536
 unfolding capacity
-capacity-small Memory = refl
-capacity-small Taken = refl
+capacity-bound L s Memory = s .memory
+capacity-bound L s Taken = s .taken
 
-pub start-bound : (l : Layout) (k : Kind) (n : ℕ) → l ≡ current → n ≡ offset l k → n ≤ 3152
-start-bound l k n e f = omega (arith, f ∙ ap (λ (x : Layout). offset x k) e, offset-small k)
+pub start-bound : (l : Layout) (k : Kind) (n : ℕ) → l ≡ current → n ≡ offset l k → n ≤ 80 + 24 * 65536
+start-bound l k n e f = omega (arith, f, offset-bound l (small-layout l e) k)
 
-pub capacity-now : (l : Layout) (k : Kind) (m : ℕ) → l ≡ current → m ≡ capacity l k → m ≡ 128
-capacity-now l k m e f = f ∙ ap (λ (x : Layout). capacity x k) e ∙ capacity-small k
+pub capacity-now : (l : Layout) (k : Kind) (m : ℕ) → l ≡ current → m ≡ capacity l k → m ≤ 65536
+capacity-now l k m e f = omega (arith, f, capacity-bound l (small-layout l e) k)
+
+-- the scratch table for any change is as long as the memory table
+pub scratch-room : 24 * capacity current Memory ≤ 3072
+unfolding capacity
+scratch-room = omega arith
 
 pub start-now : (l : Layout) (k : Kind) (n : ℕ) → l ≡ current → n ≡ offset l k → n ≡ offset current k
 start-now l k n e f = f ∙ ap (λ (x : Layout). offset x k) e

@@ -3,6 +3,7 @@ use Rattle.intake.proofs.Whole.{put-back, left-done}
 use Prim.Native.Nat.{ℕ}
 use native.Mathlib.Omega.{arith}
 use lib.ListN.{replicate, length-replicate}
+use Rattle.block.specs.Block.{current, blockLength}
 use borrow.Author.Needs.{needs}
 use Rattle.intake.proofs.e820.take_wholly.Statement.{statement}
 use Rattle.intake.proofs.e820.take_wholly.Tie as tie
@@ -29,7 +30,7 @@ returns : tie.Need-returns
 returns c =
     let start = c .before .before .before .before .before .before .before .before .before .before .before .before .before .before .before .before in
     let turn = c .before .before .before .before .before .before .before .before .take-in-turn in
-    put-back _ 6224 _ (start .pre .0) _ _ (turn .ensures) (c .before .before .before .before .before .if1 .taken) (omega (arith, start .pre .0, turn .kept .0)) (replicate 6224 0) _ _ (length-replicate {A = ℕ} 6224 0)
+    put-back _ (blockLength current) _ (start .pre .0) _ _ (turn .ensures) (c .before .before .before .before .before .if1 .taken) (omega (arith, start .pre .0, turn .kept .0)) (replicate (blockLength current) 0) _ _ (length-replicate {A = ℕ} (blockLength current) 0)
     (c .before .before .before .before .before .before .before .before .before .before .before .copy-front .ensures) (c .before .before .copy-front2 .ensures)
 
 same-length-2 : tie.Need-same-length-2

@@ -81,14 +81,14 @@ module _ (L : Layout) (s : Contents) where
   head-is = take-at (headerBytes L (headerOf s)) _ 80 (header-length L (headerOf s))
 
   module _ (g : goodContents L s ≡ true) where
-    pub direction-ok : s .direction ≤ 1
+    pub direction-ok : s .settings .direction ≤ 1
     unfolding goodContents
-    direction-ok = leb-true (s .direction) 1 (both (leb (s .direction) 1) _ g .0)
+    direction-ok = leb-true (s .settings .direction) 1 (both (leb (s .settings .direction) 1) _ g .0)
 
     pub tables-ok : (k : Kind) → goodTable L k (listOf s k) ≡ true
     unfolding goodContents
-    tables-ok Memory = both (goodTable L Memory (s .memory)) _ (both (leb (s .direction) 1) _ g .1) .0
-    tables-ok Taken = both (goodTable L Memory (s .memory)) _ (both (leb (s .direction) 1) _ g .1) .1
+    tables-ok Memory = both (goodTable L Memory (s .memory)) _ (both (leb (s .settings .direction) 1) _ g .1) .0
+    tables-ok Taken = both (goodTable L Memory (s .memory)) _ (both (leb (s .settings .direction) 1) _ g .1) .1
 
     pub room : (k : Kind) → length (listOf s k) ≤ capacity L k
     unfolding goodTable
@@ -128,7 +128,7 @@ module _ (L : Layout) (s : Contents) where
 
 unfoldable pub checks : Layout → List ℕ → Bool
 checks L b =
-    leb (readHeader b .direction) 1
+    leb (readHeader b .settings .direction) 1
     && (goodPart Memory (readHeader b .memory .count) (part L Memory b)
     && (goodPart Taken (readHeader b .taken .count) (part L Taken b) && sameBytes (take 80 b) (headerBytes L (headerOf (contents L b)))))
 
@@ -173,7 +173,7 @@ module _ (L : Layout) (b : List ℕ) where
         let d = direction-ok L (contents L b) good-contents in
         let h : take 80 b ≡ headerBytes L (headerOf (contents L b)) = ap (take 80) (sym good-spelled) ∙ head-is L (contents L b) in
         let s : sameBytes (take 80 b) (headerBytes L (headerOf (contents L b))) ≡ true = rw h (same-self (headerBytes L (headerOf (contents L b)))) in
-        and (le-leb (readHeader b .direction) 1 d) (and (part-good Memory (readHeader b .memory .count) refl) (and (part-good Taken (readHeader b .taken .count) refl) s))
+        and (le-leb (readHeader b .settings .direction) 1 d) (and (part-good Memory (readHeader b .memory .count) refl) (and (part-good Taken (readHeader b .taken .count) refl) s))
 
   module _ (bs : Bytes b) (len : length b ≡ blockLength L) where
     part-table : (k : Kind) (n : ℕ) → listOf (contents L b) k ≡ readRegions n (part L k b) → goodPart k n (part L k b) ≡ true
@@ -200,7 +200,7 @@ module _ (L : Layout) (b : List ℕ) where
         let m : Bool = goodPart Memory (readHeader b .memory .count) (part L Memory b) in
         let t : Bool = goodPart Taken (readHeader b .taken .count) (part L Taken b) in
         let s : Bool = sameBytes (take 80 b) (headerBytes L (headerOf (contents L b))) in
-        let p = both (leb (readHeader b .direction) 1) (m && (t && s)) g in
+        let p = both (leb (readHeader b .settings .direction) 1) (m && (t && s)) g in
         let q = both m (t && s) (p .1) in
         let r = both t s (q .1) in
         let x = part-table Memory (readHeader b .memory .count) refl (q .0) in
@@ -238,9 +238,9 @@ module _ (L : Layout) (b : List ℕ) where
   bad-length n d e = sym (no (good L b) (λ g. d (good-length L b g ∙ sym e)))
 
   module _ (h : Header) (r : h ≡ readHeader b) where
-    pub bad-direction : 1 < h .direction → false ≡ good L b
+    pub bad-direction : 1 < h .settings .direction → false ≡ good L b
     unfolding contents
-    bad-direction l = sym (no (good L b) (λ g. let d = direction-ok L (contents L b) (good-contents L b g) in omega (arith, ap (λ (y : Header). y .direction) r)))
+    bad-direction l = sym (no (good L b) (λ g. let d = direction-ok L (contents L b) (good-contents L b g) in omega (arith, ap (λ (y : Header). y .settings .direction) r)))
 
     pub bad-memory : (x : Checked) → x ≡ checkedTable Memory (h .memory .count) (take (80 + 24 * L .memory - 80) (drop 80 b)) → x ≡ Bad → false ≡ good L b
     unfolding contents capacity offset
@@ -260,7 +260,7 @@ module _ (L : Layout) (b : List ℕ) where
         (λ g. clash (goodPart Taken (readHeader b .taken .count) (part L Taken b)) (part-good L b g Taken (readHeader b .taken .count) refl)
         (part-bad Taken (readHeader b .taken .count) (part L Taken b) x (rw (e, r) at f) z)))
 
-    pub good-rest : Bytes b → (n : ℕ) → length b ≡ n → n ≡ blockLength L → h .direction ≤ 1
+    pub good-rest : Bytes b → (n : ℕ) → length b ≡ n → n ≡ blockLength L → h .settings .direction ≤ 1
         → (x : Checked) (mt : Size) → x ≡ checkedTable Memory (h .memory .count) (take (80 + 24 * L .memory - 80) (drop 80 b)) → x ≡ Total mt
         → (y : Checked) (kt : Size) → y ≡ checkedTable Taken (h .taken .count) (take (80 + 24 * L .memory + 24 * L .taken - (80 + 24 * L .memory)) (drop (80 + 24 * L .memory) b)) → y ≡ Total kt
         → (t : Bool) → t ≡ sameBytes (take 80 b) (headerBytes L (withTotals (readHeader b) mt kt)) → t ≡ good L b
@@ -270,10 +270,10 @@ module _ (L : Layout) (b : List ℕ) where
         let ek : 80 + 24 * L .memory + 24 * L .taken - (80 + 24 * L .memory) ≡ 24 * L .taken = omega arith in
         let p = part-total Memory (readHeader b .memory .count) (part L Memory b) x mt (rw (em, r) at ex) tx in
         let q = part-total Taken (readHeader b .taken .count) (part L Taken b) y kt (rw (ek, r) at ey) ty in
-        let c : readHeader b .direction ≤ 1 = omega (arith, ap (λ (z : Header). z .direction) r) in
+        let c : readHeader b .settings .direction ≤ 1 = omega (arith, ap (λ (z : Header). z .settings .direction) r) in
         let w : withTotals (readHeader b) mt kt ≡ headerOf (contents L b) = rw (p .1, q .1) (simp read-regions-length) in
         et ∙ ap (λ (z : Header). sameBytes (take 80 b) (headerBytes L z)) w
-        ∙ sym (good-checks L b bs (l ∙ e) ∙ rw (le-leb (readHeader b .direction) 1 c, p .0, q .0))
+        ∙ sym (good-checks L b bs (l ∙ e) ∙ rw (le-leb (readHeader b .settings .direction) 1 c, p .0, q .0))
 
 -- ---- what the test of a block says of the layout that the commands work on
 

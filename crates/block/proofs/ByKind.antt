@@ -30,8 +30,8 @@ module _ (L : Layout) (k : Kind) where
   taken-capacity e = rw e
 
 module _ (h : Header) (k : Kind) (t : Tally) where
-  pub memory-tally : k ≡ Memory → record { memory = t; taken = h .taken; limit = h .limit; direction = h .direction } ≡ withTally h k t
+  pub memory-tally : k ≡ Memory → record { memory = t; taken = h .taken; settings = h .settings } ≡ withTally h k t
   memory-tally e = rw e
 
-  pub taken-tally : k ≡ Taken → record { memory = h .memory; taken = t; limit = h .limit; direction = h .direction } ≡ withTally h k t
+  pub taken-tally : k ≡ Taken → record { memory = h .memory; taken = t; settings = h .settings } ≡ withTally h k t
   taken-tally e = rw e

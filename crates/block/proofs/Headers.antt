@@ -8,6 +8,7 @@ use lib.Seq.{sets, sets-eq}
 use Rattle.regions.specs.Bytes.{bytes}
 use Rattle.regions.proofs.Numbers.{bytes-length, sets-append}
 use Rattle.block.specs.declared.Layout.{Layout}
+use Rattle.block.specs.declared.Settings.{Settings}
 use Rattle.block.specs.declared.Header.{Header}
 use Rattle.block.specs.Block.{capacity, offset, entryBytes, entriesBytes, settingsBytes, totalsBytes, headerBytes, readHeader, sameBytes}
 use Rattle.block.specs.Checks.{withTotals}
@@ -25,9 +26,9 @@ pub entries-length : (L : Layout) (m t : ℕ) → length (entriesBytes L m t) �
 unfolding entriesBytes
 entries-length L m t = simp (length-append, bytes-length, entry-length)
 
-pub settings-length : (l d : ℕ) → length (settingsBytes l d) ≡ 16
+pub settings-length : (s : Settings) → length (settingsBytes s) ≡ 16
 unfolding settingsBytes
-settings-length l d = simp (length-append, bytes-length)
+settings-length s = simp (length-append, bytes-length)
 
 totals-length : (m t : ℕ) → length (totalsBytes m t) ≡ 24
 unfolding totalsBytes
@@ -43,9 +44,9 @@ module _ (l : List ℕ) where
   unfolding entryBytes
   entry-puts at k o n c = simp (sets-append, bytes-length, add-assoc)
 
-  pub settings-puts : (x d : ℕ) → sets (sets (sets l 40 (bytes 8 x)) 48 (bytes 4 d)) 52 (bytes 4 0) ≡ sets l 40 (settingsBytes x d)
+  pub settings-puts : (s : Settings) → sets (sets (sets l 40 (bytes 8 (s .limit .0))) 48 (bytes 4 (s .direction))) 52 (bytes 4 0) ≡ sets l 40 (settingsBytes s)
   unfolding settingsBytes
-  settings-puts x d = simp (sets-append, bytes-length)
+  settings-puts s = simp (sets-append, bytes-length)
 
   pub totals-puts : (m t : ℕ) → sets (sets (sets l 56 (bytes 8 m)) 64 (bytes 8 t)) 72 (bytes 8 0) ≡ sets l 56 (totalsBytes m t)
   unfolding totalsBytes
@@ -58,7 +59,7 @@ module _ (l : List ℕ) where
   entries-puts L m t = simp (sets-append, bytes-length, entry-length)
 
   pub header-puts : (L : Layout) (h : Header)
-      → sets (sets (sets l 0 (entriesBytes L (h .memory .count) (h .taken .count))) 40 (settingsBytes (h .limit .0) (h .direction))) 56
+      → sets (sets (sets l 0 (entriesBytes L (h .memory .count) (h .taken .count))) 40 (settingsBytes (h .settings))) 56
       (totalsBytes (h .memory .total .0) (h .taken .total .0))
       ≡ sets l 0 (headerBytes L h)
   unfolding headerBytes

@@ -42,7 +42,7 @@ header-spelled L h =
     let n = number-spelled in
     let e = entry-spelled in
     let m = bytes-append (e 1 (offset L Memory) (h .memory .count) (capacity L Memory)) (e 2 (offset L Taken) (h .taken .count) (capacity L Taken)) in
-    let s = bytes-append (n 8 (h .limit .0)) (bytes-append (n 4 (h .direction)) (n 4 0)) in
+    let s = bytes-append (n 8 (h .settings .limit .0)) (bytes-append (n 4 (h .settings .direction)) (n 4 0)) in
     let t = bytes-append (n 8 (h .memory .total .0)) (bytes-append (n 8 (h .taken .total .0)) (n 8 0)) in
     bytes-append (bytes-append (n 4 (L .edition)) (bytes-append (n 4 2) m)) (bytes-append s t)
 
@@ -67,11 +67,11 @@ module _ (L : Layout) (small : Small L) (b : List ℕ) (g : good L b ≡ true) w
   with-good Memory xs h =
       let s = contents L b in
       let p = good-contents L b g in
-      and (le-leb (s .direction) 1 (direction-ok L s p)) (and h (tables-ok L s p Taken))
+      and (le-leb (s .settings .direction) 1 (direction-ok L s p)) (and h (tables-ok L s p Taken))
   with-good Taken xs h =
       let s = contents L b in
       let p = good-contents L b g in
-      and (le-leb (s .direction) 1 (direction-ok L s p)) (and (tables-ok L s p Memory) h)
+      and (le-leb (s .settings .direction) 1 (direction-ok L s p)) (and (tables-ok L s p Memory) h)
 
   with-spellable : (k : Kind) (xs : List Region) → goodTable L k xs ≡ true → Spellable L (withList (contents L b) k xs)
   with-spellable Memory xs h =

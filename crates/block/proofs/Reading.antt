@@ -17,6 +17,7 @@ use Rattle.regions.proofs.Count.{total-le}
 use Rattle.regions.proofs.RoundTrip.{unique}
 use Rattle.regions.proofs.Good.{good-rises, good-fits}
 use Rattle.block.specs.declared.Layout.{Layout}
+use Rattle.block.specs.declared.Settings.{Settings}
 use Rattle.block.specs.declared.Header.{Header}
 use Rattle.block.specs.Block.{capacity, offset, entryBytes, entriesBytes, settingsBytes, totalsBytes, headerBytes, headerOf, Contents, listOf, blockBytes, readHeader, part, contents, goodContents, good}
 use Rattle.block.specs.Checks.{Small}
@@ -36,8 +37,8 @@ field k v n l = past (bytes k v) l k n (bytes-length k v)
 pub record HeaderFits (h : Header) : Type 0 where
   pub memory : h .memory .count < 2 ^ 32
   pub taken : h .taken .count < 2 ^ 32
-  pub limit : h .limit .0 < 2 ^ 64
-  pub direction : h .direction < 2 ^ 32
+  pub limit : h .settings .limit .0 < 2 ^ 64
+  pub direction : h .settings .direction < 2 ^ 32
   pub memory-total : h .memory .total .0 < 2 ^ 64
   taken-total : h .taken .total .0 < 2 ^ 64
 
@@ -72,17 +73,19 @@ module _ (L : Layout) (m t : ℕ) (l : List ℕ) where
       rw (entries-split, field 4 (L .edition) 28 (bytes 4 2 ++ both-entries), field 4 2 24 both-entries, past x y 16 8 (entry-length 1 (offset L Memory) m (capacity L Memory)))
       (entry-count 2 (offset L Taken) t (capacity L Taken) l h)
 
-module _ (x d : ℕ) (l : List ℕ) where
-  settings-limit : x < 2 ^ 64 → number 8 (settingsBytes x d ++ l) ≡ x
+module _ (s : Settings) (l : List ℕ) where
+  settings-limit : s .limit .0 < 2 ^ 64 → number 8 (settingsBytes s ++ l) ≡ s .limit .0
   unfolding settingsBytes
-  settings-limit h = rw append-assoc (number-bytes 8 x ((bytes 4 d ++ bytes 4 0) ++ l) h)
+  settings-limit h = rw append-assoc (number-bytes 8 (s .limit .0) ((bytes 4 (s .direction) ++ bytes 4 0) ++ l) h)
 
-  settings-direction : d < 2 ^ 32 → number 4 (drop 8 (settingsBytes x d ++ l)) ≡ d
+  settings-direction : s .direction < 2 ^ 32 → number 4 (drop 8 (settingsBytes s ++ l)) ≡ s .direction
   unfolding settingsBytes
   settings-direction h =
-      let e : (bytes 8 x ++ (bytes 4 d ++ bytes 4 0)) ++ l ≡ bytes 8 x ++ (bytes 4 d ++ (bytes 4 0 ++ l)) = simp append-assoc in
-      rw (e, field 8 x 0 (bytes 4 d ++ (bytes 4 0 ++ l))) (number-bytes 4 d (bytes 4 0 ++ l) h)
+      let d : List ℕ = bytes 4 (s .direction) in
+      let e : (bytes 8 (s .limit .0) ++ (d ++ bytes 4 0)) ++ l ≡ bytes 8 (s .limit .0) ++ (d ++ (bytes 4 0 ++ l)) = simp append-assoc in
+      rw (e, field 8 (s .limit .0) 0 (d ++ (bytes 4 0 ++ l))) (number-bytes 4 (s .direction) (bytes 4 0 ++ l) h)
 
+module _ (x d : ℕ) (l : List ℕ) where
   totals-memory : x < 2 ^ 64 → number 8 (totalsBytes x d ++ l) ≡ x
   unfolding totalsBytes
   totals-memory h = rw append-assoc (number-bytes 8 x ((bytes 8 d ++ bytes 8 0) ++ l) h)
@@ -98,19 +101,19 @@ header-read : (L : Layout) (h : Header) (l : List ℕ) → HeaderFits h → read
 unfolding headerBytes
 header-read L h l f =
     let a : List ℕ = entriesBytes L (h .memory .count) (h .taken .count) in
-    let s : List ℕ = settingsBytes (h .limit .0) (h .direction) in
+    let s : List ℕ = settingsBytes (h .settings) in
     let t : List ℕ = totalsBytes (h .memory .total .0) (h .taken .total .0) in
     let e : (a ++ (s ++ t)) ++ l ≡ a ++ (s ++ (t ++ l)) = simp append-assoc in
     let n : length a ≡ 40 = entries-length L (h .memory .count) (h .taken .count) in
-    let m : length s ≡ 16 = settings-length (h .limit .0) (h .direction) in
+    let m : length s ≡ 16 = settings-length (h .settings) in
     let d40 : drop 40 (a ++ (s ++ (t ++ l))) ≡ s ++ (t ++ l) = past a (s ++ (t ++ l)) 40 0 n in
     let d48 : drop 48 (a ++ (s ++ (t ++ l))) ≡ drop 8 (s ++ (t ++ l)) = past a (s ++ (t ++ l)) 40 8 n in
     let d56 : drop 56 (a ++ (s ++ (t ++ l))) ≡ t ++ l = past a (s ++ (t ++ l)) 40 16 n ∙ past s (t ++ l) 16 0 m in
     let d64 : drop 64 (a ++ (s ++ (t ++ l))) ≡ drop 8 (t ++ l) = past a (s ++ (t ++ l)) 40 24 n ∙ past s (t ++ l) 16 8 m in
     let p1 = entries-memory L (h .memory .count) (h .taken .count) (s ++ (t ++ l)) (f .memory) in
     let p2 = entries-taken L (h .memory .count) (h .taken .count) (s ++ (t ++ l)) (f .taken) in
-    let p3 = settings-limit (h .limit .0) (h .direction) (t ++ l) (f .limit) in
-    let p4 = settings-direction (h .limit .0) (h .direction) (t ++ l) (f .direction) in
+    let p3 = settings-limit (h .settings) (t ++ l) (f .limit) in
+    let p4 = settings-direction (h .settings) (t ++ l) (f .direction) in
     let p5 = totals-memory (h .memory .total .0) (h .taken .total .0) l (f .memory-total) in
     let p6 = totals-taken (h .memory .total .0) (h .taken .total .0) l (f .taken-total) in
     rw (e, d40, d48, d56, d64, p1, p2, p3, p4, p5, p6)
@@ -120,7 +123,7 @@ header-read L h l f =
 -- contents that can be spelled and read again: good, and a limit of 64 bits
 pub record Spellable (L : Layout) (s : Contents) : Type 0 where
   pub good : goodContents L s ≡ true
-  pub limit : s .limit < 2 ^ 64
+  pub limit : s .settings .limit .0 < 2 ^ 64
 
 module _ (L : Layout) (small : Small L) (s : Contents) (sp : Spellable L s) where
   total-fits : (f : Meaning) → total f top < 2 ^ 64
@@ -155,7 +158,7 @@ module _ (L : Layout) (small : Small L) (s : Contents) (sp : Spellable L s) wher
       let e = spelled-header in
       let m = ap (λ (h : Header). readRegions (h .memory .count) (part L Memory (blockBytes L s))) e ∙ list-read Memory in
       let t = ap (λ (h : Header). readRegions (h .taken .count) (part L Taken (blockBytes L s))) e ∙ list-read Taken in
-      λ i. record { memory = m i; taken = t i; limit = e i .limit .0; direction = e i .direction }
+      λ i. record { memory = m i; taken = t i; settings = e i .settings }
 
   -- and is a good block
   pub good-spelled-block : good L (blockBytes L s) ≡ true
@@ -164,18 +167,18 @@ module _ (L : Layout) (small : Small L) (s : Contents) (sp : Spellable L s) wher
 
 -- ---- a good block is the one that says what it says
 
--- two good blocks that say the same of each address, with the same limit and direction, are equal in every byte
+-- two good blocks that say the same of each address, with the same settings, are equal in every byte
 pub same-block : (L : Layout) (b d : List ℕ) → good L b ≡ true → good L d ≡ true
     → ((a : ℕ) → a < top → at (contents L b .memory) a ≡ at (contents L d .memory) a)
     → ((a : ℕ) → a < top → at (contents L b .taken) a ≡ at (contents L d .taken) a)
-    → contents L b .limit ≡ contents L d .limit → contents L b .direction ≡ contents L d .direction → b ≡ d
-same-block L b d g h m t l r =
+    → contents L b .settings ≡ contents L d .settings → b ≡ d
+same-block L b d g h m t l =
     let list : (k : Kind) → ((a : ℕ) → a < top → at (listOf (contents L b) k) a ≡ at (listOf (contents L d) k) a) → listOf (contents L b) k ≡ listOf (contents L d) k =
     λ k e. unique top (listOf (contents L b) k) (listOf (contents L d) k) (good-rises k _ (lists-ok L (contents L b) (good-contents L b g) k))
     (good-rises k _ (lists-ok L (contents L d) (good-contents L d h) k)) e in
     let x = list Memory m in
     let y = list Taken t in
-    let e : contents L b ≡ contents L d = λ i. record { memory = x i; taken = y i; limit = l i; direction = r i } in
+    let e : contents L b ≡ contents L d = λ i. record { memory = x i; taken = y i; settings = l i } in
     sym (good-spelled L b g) ∙ ap (blockBytes L) e ∙ good-spelled L d h
 
 -- ---- the parts of a good block

@@ -11,6 +11,7 @@ use Rattle.regions.specs.Meaning.{total}
 use Rattle.regions.specs.Lists.{goodList}
 use Rattle.regions.specs.Bytes.{number, bytes, readRegions, tableBytes}
 use Rattle.block.specs.declared.Layout.{Layout}
+use Rattle.block.specs.declared.Settings.{Settings}
 use Rattle.block.specs.declared.Header.{Header}
 use Rattle.records.specs.Totals.{tally}
 
@@ -42,20 +43,22 @@ blockLength L = 80 + 24 * (L .memory + L .taken)
 pub record Contents : Type 0 where
   pub memory : List Region
   pub taken : List Region
-  pub limit : ℕ
-  pub direction : ℕ
+  pub settings : Settings
 
 abbrev pub listOf : Contents → Kind → List Region
 listOf s Memory = s .memory
 listOf s Taken = s .taken
 
 abbrev pub withList : Contents → Kind → List Region → Contents
-withList s Memory xs = record { memory = xs; taken = s .taken; limit = s .limit; direction = s .direction }
-withList s Taken xs = record { memory = s .memory; taken = xs; limit = s .limit; direction = s .direction }
+withList s Memory xs = record { memory = xs; taken = s .taken; settings = s .settings }
+withList s Taken xs = record { memory = s .memory; taken = xs; settings = s .settings }
+
+abbrev pub settings : ℕ → ℕ → Settings
+settings limit direction = record { limit = record { 0 = limit }; direction = direction }
 
 -- document 01's fresh block: both tables empty, limit 2^64 - 1, top-down
 abbrev pub freshContents : Contents
-freshContents = record { memory = []; taken = []; limit = 2 ^ 64 - 1; direction = 0 }
+freshContents = record { memory = []; taken = []; settings = settings (2 ^ 64 - 1) 0 }
 
 -- ---- spelling
 
@@ -64,8 +67,8 @@ unfoldable pub entryBytes : ℕ → ℕ → ℕ → ℕ → List ℕ
 entryBytes kind offset count capacity = bytes 4 kind ++ (bytes 4 offset ++ (bytes 4 count ++ bytes 4 capacity))
 
 -- u64 limit, u32 direction, u32 zero
-unfoldable pub settingsBytes : ℕ → ℕ → List ℕ
-settingsBytes limit direction = bytes 8 limit ++ (bytes 4 direction ++ bytes 4 0)
+unfoldable pub settingsBytes : Settings → List ℕ
+settingsBytes s = bytes 8 (s .limit .0) ++ (bytes 4 (s .direction) ++ bytes 4 0)
 
 -- u64 memory total, u64 taken total, u64 zero
 unfoldable pub totalsBytes : ℕ → ℕ → List ℕ
@@ -81,10 +84,10 @@ entriesBytes L memory taken =
 unfoldable pub headerBytes : Layout → Header → List ℕ
 headerBytes L h =
     entriesBytes L (h .memory .count) (h .taken .count)
-    ++ (settingsBytes (h .limit .0) (h .direction) ++ totalsBytes (h .memory .total .0) (h .taken .total .0))
+    ++ (settingsBytes (h .settings) ++ totalsBytes (h .memory .total .0) (h .taken .total .0))
 
 abbrev pub headerOf : Contents → Header
-headerOf s = record { memory = tally (s .memory); taken = tally (s .taken); limit = record { 0 = s .limit }; direction = s .direction }
+headerOf s = record { memory = tally (s .memory); taken = tally (s .taken); settings = s .settings }
 
 unfoldable pub blockBytes : Layout → Contents → List ℕ
 blockBytes L s = headerBytes L (headerOf s) ++ (tableBytes (capacity L Memory) (s .memory) ++ tableBytes (capacity L Taken) (s .taken))
@@ -96,8 +99,7 @@ readHeader b =
     record {
       memory = record { count = number 4 (drop 16 b); total = record { 0 = number 8 (drop 56 b) } };
       taken = record { count = number 4 (drop 32 b); total = record { 0 = number 8 (drop 64 b) } };
-      limit = record { 0 = number 8 (drop 40 b) };
-      direction = number 4 (drop 48 b);
+      settings = settings (number 8 (drop 40 b)) (number 4 (drop 48 b));
     }
 
 -- a table's bytes
@@ -109,8 +111,7 @@ contents L b =
     record {
       memory = readRegions (readHeader b .memory .count) (part L Memory b);
       taken = readRegions (readHeader b .taken .count) (part L Taken b);
-      limit = readHeader b .limit .0;
-      direction = readHeader b .direction;
+      settings = readHeader b .settings;
     }
 
 -- ---- good
@@ -126,7 +127,7 @@ unfoldable pub goodTable : Layout → Kind → List Region → Bool
 goodTable L k xs = leb (length xs) (capacity L k) && goodList k xs
 
 unfoldable pub goodContents : Layout → Contents → Bool
-goodContents L s = leb (s .direction) 1 && (goodTable L Memory (s .memory) && goodTable L Taken (s .taken))
+goodContents L s = leb (s .settings .direction) 1 && (goodTable L Memory (s .memory) && goodTable L Taken (s .taken))
 
 -- document 01's good block: it says something that a block may say, and is the spelling of that
 unfoldable pub good : Layout → List ℕ → Bool

@@ -19,8 +19,7 @@ withTotals h memory taken =
     record {
       memory = record { count = h .memory .count; total = memory };
       taken = record { count = h .taken .count; total = taken };
-      limit = h .limit;
-      direction = h .direction;
+      settings = h .settings;
     }
 
 -- a table's part of a header, and the header with another
@@ -29,5 +28,5 @@ tallyOf h Memory = h .memory
 tallyOf h Taken = h .taken
 
 abbrev pub withTally : Header → Kind → Tally → Header
-withTally h Memory t = record { memory = t; taken = h .taken; limit = h .limit; direction = h .direction }
-withTally h Taken t = record { memory = h .memory; taken = t; limit = h .limit; direction = h .direction }
+withTally h Memory t = record { memory = t; taken = h .taken; settings = h .settings }
+withTally h Taken t = record { memory = h .memory; taken = t; settings = h .settings }

@@ -30,12 +30,17 @@ pub struct Layout {
     pub taken: u32,
 }
 
+// What a block is set to: searches end by the limit and go up where the direction is 1.
+pub struct Settings {
+    pub limit: Address,
+    pub direction: u32,
+}
+
 // What the header says beside the layout.
 pub struct Header {
     pub memory: Tally,
     pub taken: Tally,
-    pub limit: Address,
-    pub direction: u32,
+    pub settings: Settings,
 }
 
 impl Header {
@@ -57,19 +62,17 @@ impl Header {
     {
         let memory = self.memory;
         let taken = self.taken;
-        let limit = self.limit;
+        let settings = self.settings;
         match kind {
             Kind::Memory => Header {
                 memory: tally,
                 taken,
-                limit,
-                direction: self.direction,
+                settings,
             },
             Kind::Taken => Header {
                 memory,
                 taken: tally,
-                limit,
-                direction: self.direction,
+                settings,
             },
         }
     }
@@ -120,12 +123,12 @@ fn put_entry(s: &mut [u8], at: usize, kind: u32, offset: u32, count: u32, capaci
     put_u32(s, at + 12, capacity);
 }
 
-fn put_settings(s: &mut [u8], limit: Address, direction: u32)
+fn put_settings(s: &mut [u8], settings: Settings)
     requires { ⌜ 56 ≤ length (now s) ⌝ }
-    ensures { λ _. ⌜ now (s .exit) ≡ sets (now (s .entry)) 40 (settingsBytes (limit .0) direction) ⌝ }
+    ensures { λ _. ⌜ now (s .exit) ≡ sets (now (s .entry)) 40 (settingsBytes settings) ⌝ }
 {
-    put_u64(s, 40, limit.0);
-    put_u32(s, 48, direction);
+    put_u64(s, 40, settings.limit.0);
+    put_u32(s, 48, settings.direction);
     put_u32(s, 52, 0);
 }
 
@@ -154,11 +157,11 @@ pub fn put_header(s: &mut [u8], layout: Layout, h: Header)
     requires { ⌜ (80 ≤ length (now s)) × Small layout ⌝ }
     ensures { λ _. ⌜ now (s .exit) ≡ sets (now (s .entry)) 0 (headerBytes layout h) ⌝ }
 {
-    let limit = h.limit;
+    let settings = h.settings;
     let memory = h.memory;
     let taken = h.taken;
     put_entries(s, layout, memory.count, taken.count);
-    put_settings(s, limit, h.direction);
+    put_settings(s, settings);
     put_totals(s, memory.total, taken.total);
 }
 
@@ -176,8 +179,10 @@ pub fn get_header(b: &[u8]) -> Header
             count: get_u32(b, 32),
             total: Size(get_u64(b, 64)),
         },
-        limit: Address(get_u64(b, 40)),
-        direction: get_u32(b, 48),
+        settings: Settings {
+            limit: Address(get_u64(b, 40)),
+            direction: get_u32(b, 48),
+        },
     }
 }
 
@@ -202,7 +207,7 @@ fn header_right(b: &[u8], layout: Layout, memory: Size, taken: Size) -> bool
     ensures { λ r. ⌜ r ≡ sameBytes (take 80 (now (b .entry))) (headerBytes layout (withTotals (readHeader (now (b .entry))) memory taken)) ⌝ }
 {
     let own = get_header(b);
-    let limit = own.limit;
+    let settings = own.settings;
     let right = Header {
         memory: Tally {
             count: own.memory.count,
@@ -212,8 +217,7 @@ fn header_right(b: &[u8], layout: Layout, memory: Size, taken: Size) -> bool
             count: own.taken.count,
             total: taken,
         },
-        limit,
-        direction: own.direction,
+        settings,
     };
     let mut spelled = [0u8; 80];
     put_header(&mut spelled, layout, right);
@@ -231,7 +235,7 @@ pub fn block_good(b: &[u8], layout: Layout) -> bool
         return false;
     }
     let h = get_header(b);
-    if 1 < h.direction {
+    if 1 < h.settings.direction {
         return false;
     }
     let Checked::Total(memory) = check_table(&b[80..middle], h.memory.count as usize, Kind::Memory)

@@ -27,7 +27,7 @@ use Rattle.regions.proofs.Good.{good-rises}
 use Rattle.regions.proofs.Trim.{trim-rounds}
 use Rattle.regions.proofs.Twins.{update}
 use Rattle.regions.proofs.Update.{update-shortest}
-use Rattle.block.specs.Block.{current, capacity, Contents, listOf, withList, blockBytes, contents, goodTable, goodContents, good}
+use Rattle.block.specs.Block.{current, capacity, settings, Contents, listOf, withList, blockBytes, contents, goodTable, goodContents, good}
 use Rattle.tables.specs.Commands.{outcome, store, tag, changeRange, set, trim}
 use Rattle.block.proofs.Blocks.{lists-ok}
 use Rattle.block.proofs.Reading.{Spellable, contents-spelled, good-spelled-block}
@@ -51,13 +51,13 @@ abbrev goodListed : Kind → List Region → Bool
 goodListed k xs = leb (length xs) (capacity current k) && (rises 0 Absent 18446744073709551615 xs && legal k xs)
 
 abbrev pub sound : Contents → Bool
-sound s = (leb (s .direction) 1 && (goodListed Memory (s .memory) && goodListed Taken (s .taken))) && ltb (s .limit) 18446744073709551616
+sound s = (leb (s .settings .direction) 1 && (goodListed Memory (s .memory) && goodListed Taken (s .taken))) && ltb (s .settings .limit .0) 18446744073709551616
 
 pub sound-spellable : (s : Contents) → sound s ≡ true → Spellable current s
 unfolding goodContents goodTable goodList
 sound-spellable s e =
-    let p = both (leb (s .direction) 1 && (goodListed Memory (s .memory) && goodListed Taken (s .taken))) (ltb (s .limit) 18446744073709551616) e in
-    record { good = rw top-is (p .0); limit = ltb-true (s .limit) 18446744073709551616 (p .1) }
+    let p = both (leb (s .settings .direction) 1 && (goodListed Memory (s .memory) && goodListed Taken (s .taken))) (ltb (s .settings .limit .0) 18446744073709551616) e in
+    record { good = rw top-is (p .0); limit = ltb-true (s .settings .limit .0) 18446744073709551616 (p .1) }
 
 -- ---- what a call makes of contents
 
@@ -83,8 +83,8 @@ hitAt (some h) = some (h .at)
 
 abbrev seek : Contents → Query → Option ℕ
 seek s q =
-    let w = window (s .limit) q in
-    cond (eqb (s .direction) 1) (hitAt (walk Up w (s .memory) (s .taken)))
+    let w = window (s .settings .limit .0) q in
+    cond (eqb (s .settings .direction) 1) (hitAt (walk Up w (s .memory) (s .taken)))
     (hitAt (walk Down w (falling (s .memory)) (falling (s .taken))))
 
 abbrev finds : Contents → Query → Option ℕ → Played
@@ -97,7 +97,7 @@ takes s q (some a) = kept s Taken (edited s Taken (Fill (tag 0 0)) a (q .size .0
 
 unfoldable pub play : Call → Contents → Played
 play toFresh s = played 0 s []
-play (toSet limit direction) s = played 0 (record { memory = s .memory; taken = s .taken; limit = limit; direction = direction }) []
+play (toSet limit direction) s = played 0 (record { memory = s .memory; taken = s .taken; settings = settings limit direction }) []
 play (toCommand c) s = kept s (table (c .verb)) (edited s (table (c .verb)) (changeOf (c .verb)) (c .base) (c .size)) [] []
 play (toTrim align) s = played 0 (withList s Memory (roundEach align (s .memory))) []
 play (toFind q slip) s = finds s q (seek s q)
@@ -157,7 +157,7 @@ module _ (s : Contents) (sp : Spellable current s) where
   seek-is : (q : Query) → 0 < q .size .0 → 0 < q .align .0 → found s q ≡ seek s q
   unfolding found lowestIn highestIn
   seek-is q i j =
-      let w : Query = window (s .limit) q in
+      let w : Query = window (s .settings .limit .0) q in
       rw (walk-lowest w (s .memory) (s .taken) i j (canonical Memory) (canonical Taken), walk-highest w (s .memory) (s .taken) i j (canonical Memory) (canonical Taken), hit-at, hit-at)
 
   -- ---- the calls
@@ -221,7 +221,7 @@ module _ (s : Contents) (sp : Spellable current s) where
       go : (o : Option ℕ) → found s q ≡ o → 0 < q .size .0 → allocateAnswer current (blockBytes current s) (q .size .0) o ≡ told (takes s q o)
       go none h i = refl
       go (some x) h i =
-          let l = eligible-below (window (s .limit) q) s x i (found-eligible s q x h) in
+          let l = eligible-below (window (s .settings .limit .0) q) s x i (found-eligible s q x h) in
           rw (range-is Taken (Fill (tag 0 0)) x (q .size .0) (omega (arith, top-is))) (by x (leb (length (edited s Taken (Fill (tag 0 0)) x (q .size .0))) (capacity current Taken)))
 
 -- ---- a list of calls

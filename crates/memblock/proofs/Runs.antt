@@ -16,13 +16,12 @@ use Rattle.memblock.proofs.Agreeing.{through}
 -- e is a good block with the settings of b that says what the commands ds make of each address of b
 pub record Ran (ds : List Command) (b e : List ℕ) : Type 0 where
   pub isGood : good current e ≡ true
-  pub limit : contents current e .limit ≡ contents current b .limit
-  pub direction : contents current e .direction ≡ contents current b .direction
+  pub settings : contents current e .settings ≡ contents current b .settings
   pub says : (k : Kind) (a : ℕ) → at (listOf (contents current e) k) a ≡ through ds k a (at (listOf (contents current b) k) a)
 
 pub ran : (cs : List Command) (b : List ℕ) → good current b ≡ true → Ran (done cs b) b (run cs b)
 unfolding run done through
-ran [] b g = record { isGood = g; limit = refl; direction = refl; says = λ k a. refl }
+ran [] b g = record { isGood = g; settings = refl; says = λ k a. refl }
 ran (c ∷ cs) b g = go (step c b g) (λ e h. ran cs e h)
   where
     go : Refused c b ⊎ Done c b → ((e : List ℕ) → good current e ≡ true → Ran (done cs e) e (run cs e)) → Ran (done (c ∷ cs) b) b (run (c ∷ cs) b)
@@ -34,7 +33,6 @@ ran (c ∷ cs) b g = go (step c b g) (λ e h. ran cs e h)
         rw (r .number)
         (record {
           isGood = h .isGood;
-          limit = h .limit ∙ m .limit;
-          direction = h .direction ∙ m .direction;
+          settings = h .settings ∙ m .settings;
           says = λ k a. h .says k a ∙ ap (λ (v : State). through (done cs e) k a v) (m .says k a);
         })

@@ -13,10 +13,10 @@ use Rattle.regions.specs.Meaning.{at}
 use Rattle.regions.specs.Bytes.{number}
 use Rattle.regions.proofs.Good.{good-legal}
 use Rattle.regions.proofs.Legal.{legalState, legal-at}
-use Rattle.block.specs.Block.{current, listOf, settingsBytes, contents, good}
+use Rattle.block.specs.Block.{current, settings, listOf, settingsBytes, contents, good}
 use Rattle.block.proofs.Blocks.{lists-ok, good-contents}
 use Rattle.block.proofs.Reading.{same-block}
-use Rattle.block.proofs.Fields.{good-settings, good-spare, good-limit, good-direction}
+use Rattle.block.proofs.Fields.{good-settings, good-spare, settings-there}
 use Rattle.memblock.specs.Calls.{Command}
 use Rattle.memblock.specs.Lists.{table, covers, Agreed, Stands, Ends}
 use Rattle.memblock.proofs.Steps.{sameKind, works}
@@ -79,7 +79,7 @@ module _ (ds : List Command) (w : Agreed ds) (b e : List ℕ) (g : good current 
       record {
         isGood = r .isGood;
         stands = ran-stands;
-        settings = good-settings current e (r .isGood) ∙ (λ i. settingsBytes (r .limit i) (r .direction i)) ∙ sym (good-settings current b g);
+        settings = good-settings current e (r .isGood) ∙ ap settingsBytes (r .settings) ∙ sym (good-settings current b g);
         spare = good-spare current e (r .isGood) ∙ sym (good-spare current b g);
       }
 
@@ -121,5 +121,4 @@ ends-same b ds e f p q =
     let at-same : (k : Kind) (a : ℕ) → at (listOf (contents current e) k) a ≡ at (listOf (contents current f) k) a =
     λ k a. stands-same ds k a (at (listOf (contents current b) k) a) _ _ (p .stands k a) (q .stands k a) in
     same-block current e f (p .isGood) (q .isGood) (λ a l. at-same Memory a) (λ a l. at-same Taken a)
-    (good-limit current e (p .isGood) ∙ ap (number 8) s ∙ sym (good-limit current f (q .isGood)))
-    (good-direction current e (p .isGood) ∙ ap (λ (l : List ℕ). number 4 (drop 8 l)) s ∙ sym (good-direction current f (q .isGood)))
+    (settings-there current e (p .isGood) ∙ ap (λ (l : List ℕ). settings (number 8 l) (number 4 (drop 8 l))) s ∙ sym (settings-there current f (q .isGood)))

@@ -81,8 +81,7 @@ made d k a v = cond (works d k a) (change (changeOf (d .verb)) v) v
 -- e is a good block with the settings of b that says what the command makes of each address of b
 pub record Made (d : Command) (b e : List ℕ) : Type 0 where
   pub isGood : good current e ≡ true
-  pub limit : contents current e .limit ≡ contents current b .limit
-  pub direction : contents current e .direction ≡ contents current b .direction
+  pub settings : contents current e .settings ≡ contents current b .settings
   pub says : (k : Kind) (a : ℕ) → at (listOf (contents current e) k) a ≡ made d k a (at (listOf (contents current b) k) a)
 
 pub record Refused (d : Command) (b : List ℕ) : Type 0 where
@@ -103,13 +102,9 @@ with-at Memory Taken s c base size a g = refl
 with-at Taken Memory s c base size a g = refl
 with-at Taken Taken s c base size a g = changed-at Taken c base size (s .taken) g a
 
-with-limit : (j : Kind) (s : Contents) (xs : List Region) → withList s j xs .limit ≡ s .limit
-with-limit Memory s xs = refl
-with-limit Taken s xs = refl
-
-with-direction : (j : Kind) (s : Contents) (xs : List Region) → withList s j xs .direction ≡ s .direction
-with-direction Memory s xs = refl
-with-direction Taken s xs = refl
+with-settings : (j : Kind) (s : Contents) (xs : List Region) → withList s j xs .settings ≡ s .settings
+with-settings Memory s xs = refl
+with-settings Taken s xs = refl
 
 module _ (d : Command) (b : List ℕ) (g : good current b ≡ true) where
   -- the finished list of the table that the command works on
@@ -123,8 +118,7 @@ module _ (d : Command) (b : List ℕ) (g : good current b ≡ true) where
       let s : Contents = contents current b in
       record {
         isGood = h .isGood;
-        limit = ap (λ (x : Contents). x .limit) (h .says) ∙ with-limit j s finished;
-        direction = ap (λ (x : Contents). x .direction) (h .says) ∙ with-direction j s finished;
+        settings = ap (λ (x : Contents). x .settings) (h .says) ∙ with-settings j s finished;
         says =
             λ k a. ap (λ (x : Contents). at (listOf x k) a) (h .says)
             ∙ with-at j k s (changeOf (d .verb)) (d .base) (d .size) a (lists-ok current s (good-contents current b g) j);

@@ -141,7 +141,7 @@ found-vacant b q p f e a u g = go (found (contents current b) q) refl (sym g ∙
         let s = contents current b in
         let y : a ≡ record { 0 = x } = cc in
         let l = found-eligible s q x h in
-        rw y (eligible-below (window (s .limit) q) s x (p .size) l, eligible-vacant (window (s .limit) q) s x (p .size) l)
+        rw y (eligible-below (window (s .settings .limit .0) q) s x (p .size) l, eligible-vacant (window (s .settings .limit .0) q) s x (p .size) l)
 
 pub found-ends : (b : List ℕ) (q : Query) → Ready b q → (f : Place) → f ≡ placeOf (foundHit (contents current b) q) → (a : Address) (u : Run) → f ≡ Here a u
     → a .0 + q .size .0 < 18446744073709551616

@@ -38,26 +38,26 @@ eligible-vacant q s a h e b i j =
     go (Present u) f = let z : _≡_ {A = ℕ} 0 1 = cc in absurd (omega arith)
 
 -- bottom-up, find gives the lowest eligible address, and none exactly when there is none
-pub found-lowest : (s : Contents) (q : Query) → s .direction ≡ 1 → Gives (eligible (window (s .limit) q) (runsOf s)) (λ b a. b < a) top (found s q)
+pub found-lowest : (s : Contents) (q : Query) → s .settings .direction ≡ 1 → Gives (eligible (window (s .settings .limit .0) q) (runsOf s)) (λ b a. b < a) top (found s q)
 unfolding found
-found-lowest s q e = rw (eq-eqb (s .direction) 1 e) (lowest-gives (eligible (window (s .limit) q) (runsOf s)) top)
+found-lowest s q e = rw (eq-eqb (s .settings .direction) 1 e) (lowest-gives (eligible (window (s .settings .limit .0) q) (runsOf s)) top)
 
 -- top-down, the highest
-pub found-highest : (s : Contents) (q : Query) → (s .direction ≡ 1 → ⊥) → Gives (eligible (window (s .limit) q) (runsOf s)) (λ b a. a < b) top (found s q)
+pub found-highest : (s : Contents) (q : Query) → (s .settings .direction ≡ 1 → ⊥) → Gives (eligible (window (s .settings .limit .0) q) (runsOf s)) (λ b a. a < b) top (found s q)
 unfolding found
-found-highest s q e = rw (ne-eqb (s .direction) 1 e) (highest-gives (eligible (window (s .limit) q) (runsOf s)) top)
+found-highest s q e = rw (ne-eqb (s .settings .direction) 1 e) (highest-gives (eligible (window (s .settings .limit .0) q) (runsOf s)) top)
 
 -- what it gives is eligible
-pub found-eligible : (s : Contents) (q : Query) (a : ℕ) → found s q ≡ some a → eligible (window (s .limit) q) (runsOf s) a ≡ true
-found-eligible s q a e = go (eqb (s .direction) 1) refl
+pub found-eligible : (s : Contents) (q : Query) (a : ℕ) → found s q ≡ some a → eligible (window (s .settings .limit .0) q) (runsOf s) a ≡ true
+found-eligible s q a e = go (eqb (s .settings .direction) 1) refl
   where
-    given : (beyond : ℕ → ℕ → Type 0) → Gives (eligible (window (s .limit) q) (runsOf s)) beyond top (found s q) → eligible (window (s .limit) q) (runsOf s) a ≡ true
+    given : (beyond : ℕ → ℕ → Type 0) → Gives (eligible (window (s .settings .limit .0) q) (runsOf s)) beyond top (found s q) → eligible (window (s .settings .limit .0) q) (runsOf s) a ≡ true
     given beyond g =
-        let h : Gives (eligible (window (s .limit) q) (runsOf s)) beyond top (some a) = rw e at g in
+        let h : Gives (eligible (window (s .settings .limit .0) q) (runsOf s)) beyond top (some a) = rw e at g in
         h .0
 
-    go : (t : Bool) → eqb (s .direction) 1 ≡ t → eligible (window (s .limit) q) (runsOf s) a ≡ true
-    go true d = given (λ b x. b < x) (found-lowest s q (eqb-true (s .direction) 1 d))
-    go false d = given (λ b x. x < b) (found-highest s q (eqb-false (s .direction) 1 d))
+    go : (t : Bool) → eqb (s .settings .direction) 1 ≡ t → eligible (window (s .settings .limit .0) q) (runsOf s) a ≡ true
+    go true d = given (λ b x. b < x) (found-lowest s q (eqb-true (s .settings .direction) 1 d))
+    go false d = given (λ b x. x < b) (found-highest s q (eqb-false (s .settings .direction) 1 d))
 
 -- ---- by what the runs say

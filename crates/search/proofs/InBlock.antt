@@ -114,21 +114,21 @@ module _ (b : List ℕ) (q : Query) (t : Parts) (is : t ≡ partsOf b) where
 
 -- ---- find
 
-module _ (b : List ℕ) (q : Query) (h : Header) (r : h ≡ readHeader b) (w : Query) (e : w ≡ window (h .limit .0) q) where
+module _ (b : List ℕ) (q : Query) (h : Header) (r : h ≡ readHeader b) (w : Query) (e : w ≡ window (h .settings .limit .0) q) where
   pub ready-window : Ready b q → Ready b w
   ready-window p = rw e (record { good = p .good; size = p .size; align = p .align })
 
-  limit-is : w ≡ window (contents current b .limit) q
+  limit-is : w ≡ window (contents current b .settings .limit .0) q
   unfolding contents
   limit-is = rw r at e
 
-  pub find-low : h .direction ≡ 1 → (f : Place) → f ≡ placeOf (lowestOf (contents current b) w) → f ≡ placeOf (foundHit (contents current b) q)
+  pub find-low : h .settings .direction ≡ 1 → (f : Place) → f ≡ placeOf (lowestOf (contents current b) w) → f ≡ placeOf (foundHit (contents current b) q)
   unfolding found foundHit contents lowestIn
-  find-low d f i = let k : readHeader b .direction ≡ 1 = rw r at d in rw (eq-eqb (readHeader b .direction) 1 k, ← limit-is) i
+  find-low d f i = let k : readHeader b .settings .direction ≡ 1 = rw r at d in rw (eq-eqb (readHeader b .settings .direction) 1 k, ← limit-is) i
 
-  pub find-high : (h .direction ≡ 1 → ⊥) → (f : Place) → f ≡ placeOf (highestOf (contents current b) w) → f ≡ placeOf (foundHit (contents current b) q)
+  pub find-high : (h .settings .direction ≡ 1 → ⊥) → (f : Place) → f ≡ placeOf (highestOf (contents current b) w) → f ≡ placeOf (foundHit (contents current b) q)
   unfolding found foundHit contents highestIn
-  find-high d f i = let k : readHeader b .direction ≡ 1 → ⊥ = rw r at d in rw (ne-eqb (readHeader b .direction) 1 k, ← limit-is) i
+  find-high d f i = let k : readHeader b .settings .direction ≡ 1 → ⊥ = rw r at d in rw (ne-eqb (readHeader b .settings .direction) 1 k, ← limit-is) i
 
 -- ---- next free
 

@@ -58,17 +58,17 @@ module _ (limit : ℕ) (q : Query) (runs : List Region) (a : ℕ) where
       go false z (inr e) = omega (arith, o .by-limit)
 
 -- what is found ends by the limit
-pub found-within : (s : Contents) (q : Query) (a : ℕ) → 0 < q .size .0 → found s q ≡ some a → a + q .size .0 ≤ s .limit
-found-within s q a h e = eligible-offered (s .limit) q (runsOf s) a h (found-eligible s q a e) .by-limit
+pub found-within : (s : Contents) (q : Query) (a : ℕ) → 0 < q .size .0 → found s q ≡ some a → a + q .size .0 ≤ s .settings .limit .0
+found-within s q a h e = eligible-offered (s .settings .limit .0) q (runsOf s) a h (found-eligible s q a e) .by-limit
 
 -- nothing is found where the limit is no higher than the start, so nothing at all where it is 4096 or lower
-pub none-past-the-limit : (s : Contents) (q : Query) → 0 < q .size .0 → s .limit ≤ windowStart (q .start .0) → found s q ≡ none
+pub none-past-the-limit : (s : Contents) (q : Query) → 0 < q .size .0 → s .settings .limit .0 ≤ windowStart (q .start .0) → found s q ≡ none
 none-past-the-limit s q h l = go (found s q) refl
   where
     go : (o : Option ℕ) → found s q ≡ o → o ≡ none
     go none e = refl
     go (some a) e =
-        let k = eligible-offered (s .limit) q (runsOf s) a h (found-eligible s q a e) in
+        let k = eligible-offered (s .settings .limit .0) q (runsOf s) a h (found-eligible s q a e) in
         absurd (omega (arith, k .start, k .by-limit))
 
 -- ---- the answers
@@ -96,24 +96,24 @@ module _ (L : Layout) (q : Query) (b slip : List ℕ) where
   within : (answers : Option ℕ → Answer) → (answers none .number ≡ 0 → ⊥)
       → ((a : ℕ) → answers (some a) .number ≡ 0 → answers (some a) .slip ≡ slipOf a (a + q .size .0))
       → asking L q b slip (answers (found (contents L b) q)) .number ≡ 0
-      → Within (contents L b .limit) (q .size .0) (asking L q b slip (answers (found (contents L b) q)) .slip)
+      → Within (contents L b .settings .limit .0) (q .size .0) (asking L q b slip (answers (found (contents L b) q)) .slip)
   within answers refuses names e =
       let d = asking-done (answers (found (contents L b) q)) e in
       let n : answers (found (contents L b) q) .number ≡ 0 = sym (ap (λ (x : Answer). x .number) (d .0)) ∙ e in
       let w = go (found (contents L b) q) refl n (d .1) in
       record { at = w .at; named = ap (λ (x : Answer). x .slip) (d .0) ∙ w .named; by = w .by }
     where
-      go : (o : Option ℕ) → found (contents L b) q ≡ o → answers o .number ≡ 0 → 0 < q .size .0 → Within (contents L b .limit) (q .size .0) (answers o .slip)
+      go : (o : Option ℕ) → found (contents L b) q ≡ o → answers o .number ≡ 0 → 0 < q .size .0 → Within (contents L b .settings .limit .0) (q .size .0) (answers o .slip)
       go none f h i = absurd (refuses h)
       go (some a) f h i = record { at = a; named = names a h; by = found-within (contents L b) q a i f }
 
   -- the range that find names ends by the block's limit
-  pub find-within : find L q b slip .number ≡ 0 → Within (contents L b .limit) (q .size .0) (find L q b slip .slip)
+  pub find-within : find L q b slip .number ≡ 0 → Within (contents L b .settings .limit .0) (q .size .0) (find L q b slip .slip)
   unfolding find
   find-within = within (findAnswer b (q .size .0)) (λ h. omega (arith, h)) (λ a h. refl)
 
   -- and so does the range that allocate reserves
-  pub allocate-within : allocate L q b slip .number ≡ 0 → Within (contents L b .limit) (q .size .0) (allocate L q b slip .slip)
+  pub allocate-within : allocate L q b slip .number ≡ 0 → Within (contents L b .settings .limit .0) (q .size .0) (allocate L q b slip .slip)
   unfolding allocate
   allocate-within = within (allocateAnswer L b (q .size .0)) (λ h. omega (arith, h)) names
     where

@@ -41,7 +41,7 @@ runsOf s = freeRuns (s .memory) (s .taken)
 -- what find finds: bottom-up (direction 1) the lowest eligible address, top-down the highest
 unfoldable pub found : Contents → Query → Option ℕ
 found s q =
-    cond (eqb (s .direction) 1) (lowest (eligible (window (s .limit) q) (runsOf s)) top) (highest (eligible (window (s .limit) q) (runsOf s)) top)
+    cond (eqb (s .settings .direction) 1) (lowest (eligible (window (s .settings .limit .0) q) (runsOf s)) top) (highest (eligible (window (s .settings .limit .0) q) (runsOf s)) top)
 
 -- ---- next free
 

@@ -109,9 +109,9 @@ pub fn find_in(block: &[u8], q: Query) -> Place
     ensures { λ r. ⌜ r ≡ placeOf (foundHit (contents current (now (block .entry))) q) ⌝ }
 {
     let h = get_header(block);
-    let limit = h.limit;
+    let limit = h.settings.limit;
     let w = window(limit, q);
-    if h.direction == 1 {
+    if h.settings.direction == 1 {
         return lowest_in(block, w);
     }
     highest_in(block, w)

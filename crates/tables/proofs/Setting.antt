@@ -16,7 +16,7 @@ use Rattle.regions.proofs.Good.{total-is-sizes}
 use Rattle.regions.proofs.Numbers.{Bytes}
 use Rattle.block.specs.declared.Layout.{Layout}
 use Rattle.block.specs.declared.Header.{Header}
-use Rattle.block.specs.Block.{current, capacity, blockLength, freshContents, headerBytes, blockBytes, readHeader, good}
+use Rattle.block.specs.Block.{current, capacity, settings, blockLength, freshContents, headerBytes, blockBytes, readHeader, good}
 use Rattle.tables.specs.Commands.{outcome, fresh, set}
 use Rattle.block.proofs.Headers.{sets-header}
 use Rattle.block.proofs.Blocks.{good-length, bad-here, good-here}
@@ -35,8 +35,7 @@ freshHeader =
     record {
       memory = record { count = 0; total = record { 0 = 0 } };
       taken = record { count = 0; total = record { 0 = 0 } };
-      limit = record { 0 = 18446744073709551615 };
-      direction = 0;
+      settings = settings 18446744073709551615 0;
     }
 
 pub fresh-spelled : (L : Layout) → blockBytes L freshContents ≡ headerBytes L freshHeader ++ replicate (24 * (L .memory + L .taken)) 0
@@ -80,7 +79,7 @@ module _ (l : Layout) (is : l ≡ current) (b : List ℕ) (x : Address) (d : ℕ
     set-room = omega (arith, good-length current b (good-here l is b g q t))
 
     pub set-done : Bytes b → d ≤ 1 → (own : Header) → own ≡ readHeader b → (y : List ℕ)
-        → y ≡ sets b 0 (headerBytes l (record { memory = own .memory; taken = own .taken; limit = x; direction = d })) → outcome 0 y ≡ set current (x .0) d b
+        → y ≡ sets b 0 (headerBytes l (record { memory = own .memory; taken = own .taken; settings = settings (x .0) d })) → outcome 0 y ≡ set current (x .0) d b
     unfolding set blockBytes
     set-done bs h own r y p =
         let k : good current b ≡ true = good-here l is b g q t in

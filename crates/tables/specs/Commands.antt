@@ -15,7 +15,7 @@ use Rattle.regions.specs.Lists.{legalTag}
 use Rattle.regions.specs.Changes.{changed}
 use Rattle.regions.specs.Trim.{trimmedList}
 use Rattle.block.specs.declared.Layout.{Layout}
-use Rattle.block.specs.Block.{blockLength, capacity, listOf, withList, freshContents, blockBytes, contents, good}
+use Rattle.block.specs.Block.{blockLength, capacity, settings, listOf, withList, freshContents, blockBytes, contents, good}
 
 -- the number that boot code gets back, and every byte of the block after the call
 pub record Outcome : Type 0 where
@@ -41,7 +41,7 @@ set L limit direction b =
     let s = contents L b in
     unless (good L b) 1 b
     (unless (leb direction 1) 7 b
-    (done (blockBytes L (record { memory = s .memory; taken = s .taken; limit = limit; direction = direction }))))
+    (done (blockBytes L (record { memory = s .memory; taken = s .taken; settings = settings limit direction }))))
 
 -- the block with another list in one of its tables, if the table has room for it
 unfoldable pub store : Layout → Kind → List Region → List ℕ → Outcome

@@ -4,6 +4,7 @@ use crate::range::trim_memory;
 use address::Address;
 use address::Size;
 use block::Header;
+use block::Settings;
 use block::block_good;
 use block::current_layout;
 use block::get_header;
@@ -38,8 +39,10 @@ pub fn fresh(block: &mut [u8]) -> u32
     let header = Header {
         memory: empty,
         taken: empty,
-        limit: Address(0xFFFF_FFFF_FFFF_FFFF),
-        direction: 0,
+        settings: Settings {
+            limit: Address(0xFFFF_FFFF_FFFF_FFFF),
+            direction: 0,
+        },
     };
     put_zeros(block, 80);
     put_header(block, layout, header);
@@ -63,8 +66,7 @@ pub fn set(block: &mut [u8], limit: Address, direction: u32) -> u32
     let header = Header {
         memory,
         taken,
-        limit,
-        direction,
+        settings: Settings { limit, direction },
     };
     put_header(block, layout, header);
     0

@@ -116,8 +116,8 @@ extern "C" {
 #define MEMBLOCK_STACK_NEXT_FREE 384
 #define MEMBLOCK_STACK_FIND 448
 #define MEMBLOCK_STACK_ALLOCATE 512
-#define MEMBLOCK_STACK_INTAKE_E820 9920
-#define MEMBLOCK_STACK 9920 /* the most of these */
+#define MEMBLOCK_STACK_INTAKE_E820 6848
+#define MEMBLOCK_STACK 6848 /* the most of these */
 
 /* Writes a fresh block over any MEMBLOCK_BLOCK_LENGTH bytes: both tables empty, no limit, top-down. Answers 0 or 1. */
 uint32_t memblock_fresh(uint8_t *block, size_t length);

@@ -80,6 +80,16 @@ module _ (L : Layout) (s : Contents) where
   unfolding blockBytes
   head-is = take-at (headerBytes L (headerOf s)) _ 80 (header-length L (headerOf s))
 
+  -- what follows the memory table is the taken table
+  pub behind-memory : length (s .memory) ≤ L .memory → drop (offset L Taken) (blockBytes L s) ≡ tableBytes (L .taken) (s .taken)
+  unfolding blockBytes capacity offset
+  behind-memory l =
+      let h : List ℕ = headerBytes L (headerOf s) in
+      let m : List ℕ = tableBytes (L .memory) (s .memory) in
+      let t : List ℕ = tableBytes (L .taken) (s .taken) in
+      sym (drop-drop (24 * L .memory) 80 (h ++ (m ++ t))) ∙ rw (drop-at h (m ++ t) 80 (header-length L (headerOf s)))
+      (drop-at m t (24 * L .memory) (table-length (L .memory) (s .memory) l))
+
   module _ (g : goodContents L s ≡ true) where
     pub direction-ok : s .settings .direction ≤ 1
     unfolding goodContents
@@ -115,14 +125,7 @@ module _ (L : Layout) (s : Contents) where
     part-is Memory =
         rw (drop-at (headerBytes L (headerOf s)) (tableBytes (L .memory) (s .memory) ++ tableBytes (L .taken) (s .taken)) 80 (header-length L (headerOf s)))
         (take-at (tableBytes (L .memory) (s .memory)) (tableBytes (L .taken) (s .taken)) (24 * L .memory) (table-length (L .memory) (s .memory) (room Memory)))
-    part-is Taken =
-        let h : List ℕ = headerBytes L (headerOf s) in
-        let m : List ℕ = tableBytes (L .memory) (s .memory) in
-        let t : List ℕ = tableBytes (L .taken) (s .taken) in
-        let d : drop (80 + 24 * L .memory) (h ++ (m ++ t)) ≡ t =
-        sym (drop-drop (24 * L .memory) 80 (h ++ (m ++ t))) ∙ rw (drop-at h (m ++ t) 80 (header-length L (headerOf s)))
-        (drop-at m t (24 * L .memory) (table-length (L .memory) (s .memory) (room Memory))) in
-        rw d (take-all (24 * L .taken) t (omega (arith, table-length (L .taken) (s .taken) (room Taken))))
+    part-is Taken = rw (behind-memory (room Memory)) (take-all (24 * L .taken) _ (omega (arith, table-length (L .taken) (s .taken) (room Taken))))
 
 -- ---- the checks
 

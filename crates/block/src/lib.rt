@@ -23,6 +23,9 @@ pub const TAKEN: u32 = 128;
 
 pub const LENGTH: usize = 6224;
 
+// The header and the memory table: the bytes before the taken table.
+pub const FRONT: usize = 3152;
+
 // Which edition, and how many records each table has room for.
 pub struct Layout {
     pub edition: u32,

@@ -1,105 +1,122 @@
--- A report taken in on a good block leaves a good block, and past the checks it answers 0 or 6. Assumes nothing.
-use Prim.Native.Nat.{ℕ, _-_}
-use mathlib.Core.Path.{_≡_, refl, ap}
+-- A list of commands leaves a good block good; so does a report taken in, which past the checks answers 0 or 6 and changes no byte behind the memory table. Assumes nothing.
+use Prim.Native.Nat.{ℕ}
+use mathlib.Core.Path.{_≡_, refl, ap, _∙_}
 use mathlib.Core.Bool.{Bool, true, false, cond}
-use mathlib.Core.List.{List, [], _∷_}
+use mathlib.Core.List.{List, [], _∷_, List·Memᴰ, List·Memᴰ·head, List·Memᴰ·tail}
 use mathlib.Core.Logic.{_⊎_, inl, inr}
-use native.Mathlib.Omega.{arith}
-use lib.Dec.{leb, eqb}
-use lib.ListN.{length}
+use lib.Dec.{eqb}
+use lib.ListN.{drop}
+use borrow.Author.Tests.{eqb-true, eqb-false}
 use Rattle.address.specs.Numbers.{powerBelow}
-use Rattle.address.proofs.Tests.{and}
-use Rattle.regions.specs.declared.Kind.the-variants.{Memory}
-use Rattle.regions.specs.declared.Region.{Region}
-use Rattle.regions.specs.declared.Change.the-variants.{Fill}
-use Rattle.regions.specs.Lists.{legalTag}
-use Rattle.regions.specs.Changes.{changed}
-use Rattle.regions.proofs.Legal.{fill-keeps}
-use Rattle.block.specs.Block.{current, capacity, contents, good}
-use Rattle.tables.specs.Commands.{Outcome, outcome, store, tag, add, trim}
-use Rattle.block.proofs.Layouts.{small-current}
-use Rattle.block.proofs.Kept.{change-kept, trim-kept}
+use Rattle.regions.specs.declared.Kind.{Kind}
+use Rattle.regions.specs.declared.Kind.the-variants.{Memory, Taken}
+use Rattle.block.specs.Block.{current, offset, good}
+use Rattle.tables.specs.declared.commands.Verb.{Verb}
+use Rattle.tables.specs.Commands.{Outcome, outcome, Command, table, legalVerb, commandOutcome, trim}
+use Rattle.tables.proofs.Good.{command-good, command-number, trim-good}
+use Rattle.tables.proofs.Front.{command-front, trim-front}
 use Rattle.intake.specs.declared.e820.Entry.{Entry}
-use Rattle.intake.specs.declared.e820.Becomes.{Becomes}
-use Rattle.intake.specs.declared.e820.Becomes.the-variants.{Added, PassedOver}
-use Rattle.intake.specs.E820.{entries, readable, becomes, takeAs, takeEntry, entrySteps, intakeE820}
-use Rattle.intake.specs.Turns.{inTurn, wholly}
-use Rattle.intake.proofs.Turns.{turn-last}
+use Rattle.intake.specs.E820.{entries, readable, commands, entrySteps, intakeE820}
+use Rattle.intake.specs.Turns.{steps, inTurn, wholly}
+use Rattle.intake.proofs.Turns.{Leaves, both-leave, commands-leave, turn-both, turn-last}
+use Rattle.intake.proofs.ByKind.{all-adds, plain-legal}
 
--- a good block, and 0 or 6
-pub record Sound (o : Outcome) : Type 0 where
-  pub isGood : good current (o .block) ≡ true
-  pub number : (o .number ≡ 0) ⊎ (o .number ≡ 6)
+-- ---- good blocks
 
--- ---- add and trim
+-- where the one block is good, so is the other
+abbrev pub StaysGood : List ℕ → List ℕ → Type 0
+StaysGood b c = good current b ≡ true → good current c ≡ true
 
-module _ (b : List ℕ) (g : good current b ≡ true) where
-  pub add-sound : (base size : ℕ) → Sound (add current base size 0 0 b)
-  unfolding add store legalTag
-  add-sound base size = go (leb (length xs) (capacity current Memory)) refl
-    where
-      xs : List Region
-      xs = changed (Fill (tag 0 0)) base size (contents current b .memory)
+-- any list of commands in turn
+pub commands-good : (cs : List Command) → Leaves StaysGood (inTurn (steps current cs))
+commands-good cs = commands-leave StaysGood (λ b g. g) (λ b c d h k g. k (h g)) cs (λ c m b g. command-good b g c)
 
-      go : (t : Bool) → leb (length xs) (capacity current Memory) ≡ t → Sound (add current base size 0 0 b)
-      go true f =
-          rw (g, f)
-          (record { isGood = change-kept current small-current b g Memory (Fill (tag 0 0)) base size (fill-keeps Memory (tag 0 0) refl) f .isGood; number = inl refl })
-      go false f = rw (g, f) (record { isGood = g; number = inr refl })
+-- one entry's, in the code's own form
+pub turn-good : (cs : List Command) (b : List ℕ) → good current b ≡ true → (x : ℕ) (c : List ℕ) → outcome x c ≡ inTurn (steps current cs) b → good current c ≡ true
+turn-good cs b g x c o = rw (ap (λ (y : Outcome). y .block) o) (commands-good cs b g)
 
-  pub trim-sound : Sound (trim current 4096 b)
-  unfolding trim powerBelow
-  trim-sound = rw g (record { isGood = trim-kept current small-current b g 4096 (omega arith) .isGood; number = inl refl })
+trimmed-good : Leaves StaysGood (inTurn (trim current 4096 ∷ []))
+trimmed-good b g = rw (turn-last (trim current 4096) b) (trim-good b g 4096)
 
--- an entry leaves a good block
-pub entry-good : (e : Entry) (b : List ℕ) → good current b ≡ true → (x : ℕ) (c : List ℕ) → outcome x c ≡ takeEntry current e b → good current c ≡ true
-entry-good e b g x c o = rw (ap (λ (y : Outcome). y .block) o) (go (becomes (e .kind)))
+in-turn-good : (es : List Entry) → Leaves StaysGood (inTurn (entrySteps current es))
+unfolding entrySteps
+in-turn-good es =
+    both-leave StaysGood (λ b g. g) (λ b c d h k g. k (h g)) (steps current (commands es)) (trim current 4096 ∷ []) (commands-good (commands es)) trimmed-good
+
+-- ---- the bytes that entries can change
+
+-- both are good, and alike from the taken table on
+abbrev Behind : List ℕ → List ℕ → Type 0
+Behind b c = good current b ≡ true → (good current c ≡ true) × (drop (offset current Taken) c ≡ drop (offset current Taken) b)
+
+behind-on : (b c d : List ℕ) → Behind b c → Behind c d → Behind b d
+behind-on b c d h k g = let x = h g in let y = k (x .0) in (y .0, y .1 ∙ x .1)
+
+-- entries change only the header and the memory table
+pub entries-front : (es : List Entry) (b : List ℕ) → good current b ≡ true
+    → drop (offset current Taken) (inTurn (entrySteps current es) b .block) ≡ drop (offset current Taken) b
+unfolding entrySteps
+entries-front es b g =
+    both-leave Behind (λ c h. (h, refl)) behind-on (steps current (commands es)) (trim current 4096 ∷ [])
+    (commands-leave Behind (λ c h. (h, refl)) behind-on (commands es)
+    (λ c m d h. (command-good d h c, command-front d h c (ap table (all-adds es c m)))))
+    (λ c h. rw (turn-last (trim current 4096) c) (trim-good c h 4096, trim-front c h 4096)) b g .1
+
+-- ---- the number
+
+abbrev DoneOrFull : Outcome → Type 0
+DoneOrFull o = (o .number ≡ 0) ⊎ (o .number ≡ 6)
+
+-- legal commands in turn are done, or one finds its table full
+commands-number : (cs : List Command) → ((c : Command) → List·Memᴰ c cs → legalVerb (c .verb) ≡ true) → (b : List ℕ) → good current b ≡ true
+    → DoneOrFull (inTurn (steps current cs) b)
+unfolding inTurn
+commands-number [] h b g = inl refl
+commands-number (c ∷ cs) h b g = go (eqb (o .number) 0) refl (commands-number cs (λ d m. h d (List·Memᴰ·tail m)))
   where
-    go : (k : Becomes) → good current (takeAs k current e b .block) ≡ true
-    go PassedOver = g
-    go Added = add-sound b g (e .base .0) (e .size .0) .isGood
+    o : Outcome
+    o = commandOutcome current c b
 
--- ---- in turn, and whole
+    go : (t : Bool) → eqb (o .number) 0 ≡ t → ((d : List ℕ) → good current d ≡ true → DoneOrFull (inTurn (steps current cs) d))
+        → DoneOrFull (cond t (inTurn (steps current cs) (o .block)) o)
+    go true e ih = ih (o .block) (command-good b g c)
+    go false e ih = command-number b g c (h c (List·Memᴰ·head refl))
 
-in-turn-sound : (es : List Entry) (b : List ℕ) → good current b ≡ true → Sound (inTurn (entrySteps current es) b)
-unfolding entrySteps inTurn
-in-turn-sound [] b g = rw (turn-last (trim current 4096) b) (trim-sound b g)
-in-turn-sound (e ∷ es) b g = go (becomes (e .kind)) (in-turn-sound es)
+in-turn-number : (es : List Entry) (b : List ℕ) → good current b ≡ true → DoneOrFull (inTurn (entrySteps current es) b)
+unfolding entrySteps trim powerBelow
+in-turn-number es b g = rw (turn-both (steps current (commands es)) (trim current 4096 ∷ []) b) (go (eqb (o .number) 0))
   where
-    go : (k : Becomes) → ((c : List ℕ) → good current c ≡ true → Sound (inTurn (entrySteps current es) c))
-        → Sound (inTurn (takeAs k current e ∷ entrySteps current es) b)
-    go PassedOver ih = ih b g
-    go Added ih = by (eqb (o .number) 0)
-      where
-        o : Outcome
-        o = add current (e .base .0) (e .size .0) 0 0 b
+    o : Outcome
+    o = inTurn (steps current (commands es)) b
 
-        by : (t : Bool) → Sound (cond t (inTurn (entrySteps current es) (o .block)) o)
-        by true = ih (o .block) (add-sound b g (e .base .0) (e .size .0) .isGood)
-        by false = add-sound b g (e .base .0) (e .size .0)
+    go : (t : Bool) → DoneOrFull (cond t (inTurn (trim current 4096 ∷ []) (o .block)) o)
+    go true = rw (turn-last (trim current 4096) (o .block), commands-good (commands es) b g) (inl refl)
+    go false = commands-number (commands es) (λ c m. ap legalVerb (all-adds es c m) ∙ plain-legal) b g
+
+-- ---- the whole
 
 module _ (r b : List ℕ) (g : good current b ≡ true) where
-  wholly-sound : Sound (wholly (entrySteps current (entries r)) b)
-  unfolding wholly
-  wholly-sound = go (eqb (o .number) 0) (in-turn-sound (entries r) b g)
+  -- the block stays good, also where the report is refused
+  pub intake-good : good current (intakeE820 current r b .block) ≡ true
+  unfolding intakeE820 wholly
+  intake-good = rw g (go (readable r) (eqb (o .number) 0))
     where
       o : Outcome
       o = inTurn (entrySteps current (entries r)) b
 
-      go : (t : Bool) → Sound o → Sound (cond t o (outcome (o .number) b))
-      go true h = h
-      go false h = record { isGood = g; number = h .number }
-
-  -- the block stays good, also where the report is refused
-  pub intake-good : good current (intakeE820 current r b .block) ≡ true
-  unfolding intakeE820
-  intake-good = rw g (go (readable r))
-    where
-      go : (t : Bool) → good current (cond t (wholly (entrySteps current (entries r)) b) (outcome 10 b) .block) ≡ true
-      go true = wholly-sound .isGood
-      go false = g
+      go : (t u : Bool) → good current (cond t (cond u o (outcome (o .number) b)) (outcome 10 b) .block) ≡ true
+      go true true = in-turn-good (entries r) b g
+      go true false = g
+      go false u = g
 
   -- 1 is given where the block is not good, 10 where it is and the report cannot be read, and then 0 or 6
   pub intake-number : readable r ≡ true → (intakeE820 current r b .number ≡ 0) ⊎ (intakeE820 current r b .number ≡ 6)
-  unfolding intakeE820
-  intake-number e = rw (g, e) (wholly-sound .number)
+  unfolding intakeE820 wholly
+  intake-number e = rw (g, e) (go (eqb (o .number) 0))
+    where
+      o : Outcome
+      o = inTurn (entrySteps current (entries r)) b
+
+      go : (t : Bool) → DoneOrFull (cond t o (outcome (o .number) b))
+      go true = in-turn-number (entries r) b g
+      go false = in-turn-number (entries r) b g

@@ -1,15 +1,15 @@
 -- A report is taken in whole or not at all: refusals in their order, and the block put back. Assumes nothing.
-use Prim.Native.Nat.{ℕ, _/_, _%_, _≤_, _<_}
+use Prim.Native.Nat.{ℕ, _+_, _*_, _/_, _%_, _≤_, _<_}
 use mathlib.Core.Path.{_≡_, refl, ap, _∙_}
 use mathlib.Core.Bool.{Bool, true, false, not}
 use mathlib.Core.List.{List, [], _++_, append-nil}
 use native.Mathlib.Omega.{arith}
 use lib.Dec.{eqb}
-use lib.ListN.{length, take, drop}
-use lib.Seq.{take-all, drop-length}
+use lib.ListN.{length, take, drop, take-append-drop, drop-of-length-le}
+use lib.Seq.{take-all, length-take-le}
 use borrow.Author.Tests.{eq-eqb, ne-eqb, le-leb, lt-leb, eqb-true, eqb-false}
 use Rattle.block.specs.declared.Layout.{Layout}
-use Rattle.block.specs.Block.{current, blockLength, good}
+use Rattle.block.specs.Block.{current, good}
 use Rattle.tables.specs.Commands.{Outcome, outcome, unless}
 use Rattle.block.proofs.Blocks.{good-length, good-here, bad-here}
 use Rattle.intake.specs.E820.{entries, readable, entrySteps, intakeE820}
@@ -17,20 +17,22 @@ use Rattle.intake.specs.Turns.{Step, inTurn, wholly}
 
 -- ---- put back after a refusal
 
--- all n bytes copied
-copied : (n : ℕ) (s d : List ℕ) → length s ≡ n → length d ≡ n → take n s ++ drop n d ≡ s
-copied n s d h k =
-    let e : drop n d ≡ [] = rw (← k) (drop-length d) in
-    rw (take-all n s (omega arith), e) (append-nil s)
+-- a good block is longer than what is kept of it
+pub front-room : (b : List ℕ) → good current b ≡ true → 80 + 24 * current .memory ≤ length b
+front-room b g = omega (arith, good-length current b g)
 
-module _ (ss : List Step) (n : ℕ) (b : List ℕ) (len : length b ≡ n) (x : ℕ) (c : List ℕ) (o : outcome x c ≡ inTurn ss b) where
-  pub put-back : (x ≡ 0 → ⊥) → length c ≡ n → (z k d : List ℕ) → length z ≡ n → k ≡ take n b ++ drop n z → d ≡ take n k ++ drop n c
+module _ (ss : List Step) (b : List ℕ) (x : ℕ) (c : List ℕ) (o : outcome x c ≡ inTurn ss b) where
+  -- the first n bytes were kept, and the others have not changed
+  pub put-back : (x ≡ 0 → ⊥) → (n : ℕ) → n ≤ length b → drop n (inTurn ss b .block) ≡ drop n b → (z k d : List ℕ) → length z ≡ n → k ≡ take n b ++ drop n z → d ≡ take n k ++ drop n c
       → outcome x d ≡ wholly ss b
   unfolding wholly
-  put-back h m z k d l p q =
-      let e : k ≡ b = p ∙ copied n b z len l in
-      let f : d ≡ b = q ∙ ap (λ (y : List ℕ). take n y ++ drop n c) e ∙ copied n b c len m in
-      rw (← o, ne-eqb x 0 h, f)
+  put-back h n l same z k d m p q =
+      let r : length z ≤ n = omega arith in
+      let e : k ≡ take n b = p ∙ rw (drop-of-length-le z r) (append-nil (take n b)) in
+      let f : take n k ≡ take n b = rw e (take-all n (take n b) (omega (arith, length-take-le n b l))) in
+      let y : drop n c ≡ drop n b = ap (λ (w : Outcome). drop n (w .block)) o ∙ same in
+      let w : d ≡ b = q ∙ rw (f, y) (take-append-drop n b) in
+      rw (← o, ne-eqb x 0 h, w)
 
   pub left-done : x ≡ 0 → outcome 0 c ≡ wholly ss b
   unfolding wholly
@@ -46,9 +48,6 @@ module _ (L : Layout) (w : L ≡ current) (b : List ℕ) (g : Bool) (q : g ≡ g
   module _ (h : not g ≡ false) where
     pub is-good : good current b ≡ true
     is-good = good-here L w b g q h
-
-    pub block-length : length b ≡ blockLength current
-    block-length = good-length current b is-good
 
     pub ragged : (length r % 20 ≡ 0 → ⊥) → outcome 10 b ≡ intakeE820 current r b
     unfolding intakeE820 readable

@@ -1,17 +1,18 @@
 -- Taking in an E820 report: what it answers and leaves, for any bytes. Assumes nothing.
 use Prim.Native.Nat.{ℕ, zero, suc, _/_, _%_}
 use mathlib.Core.Bool.{Bool, cond, _&&_}
-use mathlib.Core.List.{List, [], _∷_, _++_, map}
+use mathlib.Core.List.{List, [], _∷_, _++_}
 use lib.Dec.{leb, eqb}
 use lib.ListN.{length, drop}
 use Rattle.regions.specs.Bytes.{number}
 use Rattle.block.specs.declared.Layout.{Layout}
 use Rattle.block.specs.Block.{good}
-use Rattle.tables.specs.Commands.{Outcome, done, unless, add, trim}
+use Rattle.tables.specs.declared.commands.Verb.the-variants.{Add}
+use Rattle.tables.specs.Commands.{Outcome, unless, tag, Command, command, trim}
 use Rattle.intake.specs.declared.e820.Entry.{Entry}
 use Rattle.intake.specs.declared.e820.Becomes.{Becomes}
 use Rattle.intake.specs.declared.e820.Becomes.the-variants.{Added, PassedOver}
-use Rattle.intake.specs.Turns.{Step, wholly}
+use Rattle.intake.specs.Turns.{Step, steps, wholly}
 
 -- ---- the report
 
@@ -38,16 +39,20 @@ unfoldable pub becomes : ℕ → Becomes
 becomes kind = cond (eqb kind 1) Added PassedOver
 
 -- what is added gets the tag 0, 0
-abbrev pub takeAs : Becomes → Layout → Entry → Step
-takeAs Added L e b = add L (e .base .0) (e .size .0) 0 0 b
-takeAs PassedOver L e b = done b
+abbrev pub commandsAs : Becomes → Entry → List Command
+commandsAs Added e = command (Add (tag 0 0)) (e .base .0) (e .size .0) ∷ []
+commandsAs PassedOver e = []
 
-abbrev pub takeEntry : Layout → Entry → Step
-takeEntry L e b = takeAs (becomes (e .kind)) L e b
+abbrev pub entryCommands : Entry → List Command
+entryCommands e = commandsAs (becomes (e .kind)) e
 
--- the entries in turn, then memory is trimmed by 4096
+unfoldable pub commands : List Entry → List Command
+commands [] = []
+commands (e ∷ es) = entryCommands e ++ commands es
+
+-- the entries' commands in turn, then memory is trimmed by 4096
 unfoldable pub entrySteps : Layout → List Entry → List Step
-entrySteps L es = map (takeEntry L) es ++ (trim L 4096 ∷ [])
+entrySteps L es = steps L (commands es) ++ (trim L 4096 ∷ [])
 
 -- the block is looked at first, then the report's length, then the entries; a refusal leaves the block as it was
 unfoldable pub intakeE820 : Layout → List ℕ → List ℕ → Outcome

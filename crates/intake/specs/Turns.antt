@@ -1,13 +1,18 @@
 -- Several commands as one: in turn, and whole or not at all. Assumes nothing.
 use Prim.Native.Nat.{ℕ}
 use mathlib.Core.Bool.{cond}
-use mathlib.Core.List.{List, [], _∷_}
+use mathlib.Core.List.{List, [], _∷_, map}
 use lib.Dec.{eqb}
-use Rattle.tables.specs.Commands.{Outcome, done, unless}
+use Rattle.block.specs.declared.Layout.{Layout}
+use Rattle.tables.specs.Commands.{Outcome, done, unless, Command, commandOutcome}
 
 -- a command with its numbers: what it answers and leaves of a block
 abbrev pub Step : Type 0
 Step = List ℕ → Outcome
+
+-- a list of commands, as steps
+abbrev pub steps : Layout → List Command → List Step
+steps L cs = map (commandOutcome L) cs
 
 -- each on the block that the one before it left; the first refusal ends it
 unfoldable pub inTurn : List Step → Step

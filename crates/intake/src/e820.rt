@@ -1,23 +1,24 @@
 // E820 reports: entries of 20 bytes, u64 base, u64 length, u32 kind, little-endian.
 use address::Address;
 use address::Size;
-use block::LENGTH;
+use block::FRONT;
 use block::block_good;
 use block::current_layout;
 use records::table::copy_front;
 use regions::Tag;
 use regions::bytes::get_u32;
 use regions::bytes::get_u64;
-use tables::commands::add_on_good;
+use tables::commands::Verb;
+use tables::commands::on_good;
 use tables::commands::trim_on_good;
 ghost use mathlib.Core.Path.{_≡_};
 ghost use Prim.Native.Nat.{_+_, _≤_};
 ghost use lib.ListN.{length, drop};
 ghost use mathlib.Core.Bool.{true};
-ghost use Rattle.block.specs.Block.{current, blockLength, good};
+ghost use Rattle.block.specs.Block.{current, good};
 ghost use Rattle.tables.specs.Commands.{outcome};
-ghost use Rattle.intake.specs.E820.{readEntry, entries, becomes as becomesOf, takeEntry, entrySteps, intakeE820};
-ghost use Rattle.intake.specs.Turns.{inTurn, wholly};
+ghost use Rattle.intake.specs.E820.{readEntry, entries, becomes as becomesOf, entryCommands, entrySteps, intakeE820};
+ghost use Rattle.intake.specs.Turns.{steps, inTurn, wholly};
 
 // One range of the report.
 pub struct Entry {
@@ -75,13 +76,13 @@ fn get_entry(report: &[u8], at: usize) -> Entry
 // One entry on a good block.
 fn take_entry(block: &mut [u8], entry: Entry) -> u32
     requires { ⌜ good current (now block) ≡ true ⌝ }
-    ensures { λ r. ⌜ outcome r (now (block .exit)) ≡ takeEntry current entry (now (block .entry)) ⌝ }
+    ensures { λ r. ⌜ outcome r (now (block .exit)) ≡ inTurn (steps current (entryCommands entry)) (now (block .entry)) ⌝ }
 {
     let base = entry.base;
     let size = entry.size;
     let plain = Tag { flags: 0, node: 0 };
     match entry.becomes() {
-        Becomes::Added => add_on_good(block, base, size, plain),
+        Becomes::Added => on_good(block, Verb::Add(plain), base, size),
         Becomes::PassedOver => 0,
     }
 }
@@ -104,16 +105,16 @@ fn take_in_turn(block: &mut [u8], report: &[u8]) -> u32
     0
 }
 
-// The same, whole or not at all: a copy of the block is kept on the stack, and put back after a refusal.
+// The same, whole or not at all: a copy of what an entry can change, the header and the memory table, is kept on the stack, and put back after a refusal.
 fn take_wholly(block: &mut [u8], report: &[u8]) -> u32
-    requires { ⌜ (length (now block) ≡ blockLength current) × (good current (now block) ≡ true) ⌝ }
+    requires { ⌜ good current (now block) ≡ true ⌝ }
     ensures { λ r. ⌜ outcome r (now (block .exit)) ≡ wholly (entrySteps current (entries (now (report .entry)))) (now (block .entry)) ⌝ }
 {
-    let mut kept = [0u8; LENGTH];
-    copy_front(&mut kept, block, LENGTH);
+    let mut kept = [0u8; FRONT];
+    copy_front(&mut kept, block, FRONT);
     let number = take_in_turn(block, report);
     if number != 0 {
-        copy_front(block, &kept, LENGTH);
+        copy_front(block, &kept, FRONT);
         return number;
     }
     0

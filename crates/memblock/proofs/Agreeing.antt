@@ -13,10 +13,11 @@ use Rattle.regions.specs.Lists.{legalTag}
 use Rattle.regions.specs.Changes.{has, setFlag, clearFlag, change}
 use Rattle.regions.proofs.Push.{same-true}
 use Rattle.regions.proofs.Legal.{legalState}
-use Rattle.tables.specs.Commands.{tag}
-use Rattle.memblock.specs.Calls.{Verb, adds, removes, marks, unmarks, reserves, frees, Command}
-use Rattle.memblock.specs.Lists.{table, says}
-use Rattle.memblock.proofs.Steps.{changeOf, works, made}
+use Rattle.tables.specs.declared.commands.Verb.{Verb}
+use Rattle.tables.specs.declared.commands.Verb.the-variants.{Add, Remove, Mark, Unmark, Reserve, Free}
+use Rattle.tables.specs.Commands.{tag, Command, table, changeOf}
+use Rattle.memblock.specs.Lists.{says}
+use Rattle.memblock.proofs.Steps.{works, made}
 
 -- ---- a command made twice is made once
 
@@ -41,30 +42,30 @@ clear-twice f = go (has 4 f) refl
 
 change-twice : (w : Verb) (v : State) → change (changeOf w) (change (changeOf w) v) ≡ change (changeOf w) v
 unfolding change
-change-twice (adds t) Absent = refl
-change-twice (adds t) (Present u) = refl
-change-twice removes v = refl
-change-twice marks Absent = refl
-change-twice marks (Present t) = rw set-twice
-change-twice unmarks Absent = refl
-change-twice unmarks (Present t) = rw clear-twice
-change-twice reserves Absent = refl
-change-twice reserves (Present u) = refl
-change-twice frees v = refl
+change-twice (Add t) Absent = refl
+change-twice (Add t) (Present u) = refl
+change-twice Remove v = refl
+change-twice Mark Absent = refl
+change-twice Mark (Present t) = rw set-twice
+change-twice Unmark Absent = refl
+change-twice Unmark (Present t) = rw clear-twice
+change-twice Reserve Absent = refl
+change-twice Reserve (Present u) = refl
+change-twice Free v = refl
 
 -- what a command makes of a legal state is what document 01 says: in the taken table every tag is 0, 0, so reserve gives that tag
 pub change-says : (w : Verb) (v : State) → legalState (table w) v ≡ true → change (changeOf w) v ≡ says w v
 unfolding change says legalTag
-change-says (adds t) Absent e = refl
-change-says (adds t) (Present u) e = refl
-change-says removes v e = refl
-change-says marks Absent e = refl
-change-says marks (Present t) e = refl
-change-says unmarks Absent e = refl
-change-says unmarks (Present t) e = refl
-change-says reserves Absent e = refl
-change-says reserves (Present u) e = ap Present (same-true u (tag 0 0) e)
-change-says frees v e = refl
+change-says (Add t) Absent e = refl
+change-says (Add t) (Present u) e = refl
+change-says Remove v e = refl
+change-says Mark Absent e = refl
+change-says Mark (Present t) e = refl
+change-says Unmark Absent e = refl
+change-says Unmark (Present t) e = refl
+change-says Reserve Absent e = refl
+change-says Reserve (Present u) e = ap Present (same-true u (tag 0 0) e)
+change-says Free v e = refl
 
 -- ---- a list of commands at one address
 

@@ -4,7 +4,8 @@ use mathlib.Core.Path.{_≡_, sym, ap}
 use mathlib.Core.Bool.{true}
 use mathlib.Core.List.{List, List·Memᴰ}
 use Rattle.block.specs.Block.{current, good}
-use Rattle.memblock.specs.Calls.{Command, answers}
+use Rattle.tables.specs.Commands.{Command}
+use Rattle.memblock.specs.Calls.{answers}
 use Rattle.memblock.specs.Lists.{run, done, Agreed, SameDone, Ends, DemandThree}
 use Rattle.memblock.proofs.Runs.{ran}
 use Rattle.memblock.proofs.Often.{same-members}

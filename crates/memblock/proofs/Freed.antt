@@ -16,40 +16,40 @@ use Rattle.regions.specs.Free.{usable, free as freeMemory, freeRuns}
 use Rattle.regions.proofs.RoundTrip.{inside-yes}
 use Rattle.regions.proofs.Lying.{OneTag, in-one-run}
 use Rattle.block.specs.Block.{current, contents, good}
-use Rattle.tables.specs.Commands.{free}
+use Rattle.tables.specs.declared.commands.Verb.the-variants.{Free}
+use Rattle.tables.specs.Commands.{Command, command}
 use Rattle.runs.specs.declared.Query.{Query}
 use Rattle.runs.specs.Eligible.{asks, eligible}
 use Rattle.search.specs.Search.{runsOf}
 use Rattle.runs.proofs.Eligible.{lies-eligible}
-use Rattle.memblock.specs.Calls.{frees, Command, outcomeBy}
+use Rattle.memblock.specs.Calls.{outcomeOf}
 use Rattle.memblock.proofs.Steps.{Made, Refused, Done, made, step}
 
-module _ (b : List ℕ) (g : good current b ≡ true) (base size : ℕ) (d : free current base size b .number ≡ 0) where
+module _ (b : List ℕ) (g : good current b ≡ true) (base size : ℕ) (d : outcomeOf (command Free base size) b .number ≡ 0) where
   abbrev freeing : Command
-  freeing = record { verb = frees; base = base; size = size }
+  freeing = command Free base size
 
-  freed : Made freeing b (free current base size b .block)
-  unfolding outcomeBy
+  freed : Made freeing b (outcomeOf freeing b .block)
   freed = go (step freeing b g)
     where
-      go : Refused freeing b ⊎ Done freeing b → Made freeing b (free current base size b .block)
-      go (inl r) = absurd (clash (eqb (free current base size b .number) 0) (eq-eqb _ 0 d) (r .number))
+      go : Refused freeing b ⊎ Done freeing b → Made freeing b (outcomeOf freeing b .block)
+      go (inl r) = absurd (clash (eqb (outcomeOf freeing b .number) 0) (eq-eqb _ 0 d) (r .number))
       go (inr r) = r .block
 
   -- an aligned address in the window, the size addresses from which were freed, and are memory of one tag, not no-map, of the node asked for
   pub freed-eligible : (q : Query) (a : ℕ) → 0 < q .size .0 → a % q .align .0 ≡ 0 → q .start .0 ≤ a → a + q .size .0 ≤ q .end .0
       → base ≤ a → a + q .size .0 ≤ cut base size → OneTag (λ c. usable (at (contents current b .memory) c)) (asks q) (q .size .0) a
-      → eligible q (runsOf (contents current (free current base size b .block))) a ≡ true
+      → eligible q (runsOf (contents current (outcomeOf freeing b .block))) a ≡ true
   unfolding freeRuns freeMemory made change
   freed-eligible q a pos al lo hi from to o =
-      let s = contents current (free current base size b .block) in
+      let s = contents current (outcomeOf freeing b .block) in
       let p : OneTag (freeMemory (at (s .memory)) (at (s .taken))) (asks q) (q .size .0) a =
       record { tag = o .tag; right = o .right; all = all } in
       let r = in-one-run (freeMemory (at (s .memory)) (at (s .taken))) (asks q) (q .size .0) a pos (omega arith) p in
       lies-eligible q (runsOf s) a (record { aligned = al; start = lo; end = hi; run = r })
     where
       all : (c : ℕ) → a ≤ c → c < a + q .size .0
-          → freeMemory (at (contents current (free current base size b .block) .memory)) (at (contents current (free current base size b .block) .taken)) c
+          → freeMemory (at (contents current (outcomeOf freeing b .block) .memory)) (at (contents current (outcomeOf freeing b .block) .taken)) c
           ≡ Present (o .tag)
       all c i j =
           rw (freed .says Memory c, freed .says Taken c, inside-yes base (cut base size) c (omega arith) (omega arith)) (o .all c i j)

@@ -5,6 +5,8 @@ pub mod Often
 pub mod Standing
 pub mod DemandThree
 pub mod Playing
+pub mod Called
 pub mod Cases
 pub mod Freed
+pub mod Refusals
 pub mod Reports

@@ -10,23 +10,25 @@ use Rattle.address.proofs.Tests.{both, and}
 use Rattle.regions.specs.declared.Tag.{Tag}
 use Rattle.regions.specs.Meaning.{sameTag}
 use Rattle.regions.proofs.Push.{same-true, same-self}
-use Rattle.memblock.specs.Calls.{Verb, adds, removes, marks, unmarks, reserves, frees, Command}
+use Rattle.tables.specs.declared.commands.Verb.{Verb}
+use Rattle.tables.specs.declared.commands.Verb.the-variants.{Add, Remove, Mark, Unmark, Reserve, Free}
+use Rattle.tables.specs.Commands.{Command}
 use Rattle.memblock.specs.Lists.{code, tagOf, sameCall, often, SameDone}
 
 -- ---- the same call is the same command
 
 -- the command that a code and a tag stand for
 decode : ℕ → Tag → Verb
-decode n t = cond (eqb n 1) (adds t) (cond (eqb n 2) removes (cond (eqb n 3) marks (cond (eqb n 4) unmarks (cond (eqb n 5) reserves frees))))
+decode n t = cond (eqb n 1) (Add t) (cond (eqb n 2) Remove (cond (eqb n 3) Mark (cond (eqb n 4) Unmark (cond (eqb n 5) Reserve Free))))
 
 decode-code : (v : Verb) → decode (code v) (tagOf v) ≡ v
 unfolding decode
-decode-code (adds t) = refl
-decode-code removes = refl
-decode-code marks = refl
-decode-code unmarks = refl
-decode-code reserves = refl
-decode-code frees = refl
+decode-code (Add t) = refl
+decode-code Remove = refl
+decode-code Mark = refl
+decode-code Unmark = refl
+decode-code Reserve = refl
+decode-code Free = refl
 
 same-call : (d e : Command) → sameCall d e ≡ true → d ≡ e
 same-call d e h =

@@ -28,7 +28,7 @@ use Rattle.regions.proofs.Trim.{trim-rounds}
 use Rattle.regions.proofs.Twins.{update}
 use Rattle.regions.proofs.Update.{update-shortest}
 use Rattle.block.specs.Block.{current, capacity, settings, Contents, listOf, withList, blockBytes, contents, goodTable, goodContents, good}
-use Rattle.tables.specs.Commands.{outcome, store, tag, changeRange, set, trim}
+use Rattle.tables.specs.Commands.{outcome, store, tag, changeRange, Command, table, changeOf, legalVerb, commandOutcome, set, trim}
 use Rattle.block.proofs.Blocks.{lists-ok}
 use Rattle.block.proofs.Reading.{Spellable, contents-spelled, good-spelled-block}
 use Rattle.block.proofs.Layouts.{small-current}
@@ -41,9 +41,7 @@ use Rattle.search.proofs.Found.{eligible-below, found-eligible}
 use Rattle.search.proofs.Answering.{number-ready}
 use Rattle.runs.proofs.Twins.{Up, Down, walk, falling}
 use Rattle.runs.proofs.Walks.{walk-lowest, walk-highest}
-use Rattle.memblock.specs.Calls.{Command, Call, toFresh, toSet, toCommand, toTrim, toFind, toNextFree, toAllocate, toIntake, answerOf, answers}
-use Rattle.memblock.specs.Lists.{table}
-use Rattle.memblock.proofs.Steps.{changeOf, legalVerb, outcome-is}
+use Rattle.memblock.specs.Calls.{Call, toFresh, toSet, toCommand, toTrim, toFind, toNextFree, toAllocate, toIntake, answerOf, answers}
 
 -- ---- which contents can stand in a block, computed
 
@@ -168,9 +166,9 @@ module _ (s : Contents) (sp : Spellable current s) where
 
   command-played : (c : Command) → legalVerb (c .verb) ≡ true → c .base ≤ 18446744073709551615
       → answerOf (toCommand c) (blockBytes current s) ≡ told (play (toCommand c) s)
-  unfolding answerOf play
+  unfolding answerOf commandOutcome play
   command-played c e h =
-      rw (outcome-is (c .verb) (c .base) (c .size) (blockBytes current s), isGood, e, range-is (table (c .verb)) (changeOf (c .verb)) (c .base) (c .size) h)
+      rw (isGood, e, range-is (table (c .verb)) (changeOf (c .verb)) (c .base) (c .size) h)
       (go (leb (length (edited s (table (c .verb)) (changeOf (c .verb)) (c .base) (c .size))) (capacity current (table (c .verb)))))
     where
       go : (t : Bool)

@@ -2,47 +2,26 @@
 use Prim.Native.Nat.{ℕ, suc, _+_}
 use mathlib.Core.Path.{_≡_, refl, sym, ap, _∙_}
 use mathlib.Core.Bool.{Bool, true, false, cond}
-use mathlib.Core.List.{List, [], _∷_, List·Memᴰ, List·Memᴰ·head, List·Memᴰ·tail, List·Memᴰ·not-nil, List·Permᴰ, List·Permᴰ·nil, List·Permᴰ·cons, List·Permᴰ·swap, List·Permᴰ·trans}
+use mathlib.Core.List.{List, [], _∷_, _++_, List·Permᴰ, List·Permᴰ·nil, List·Permᴰ·cons, List·Permᴰ·swap, List·Permᴰ·trans}
 use mathlib.Core.Logic.{inr}
 use native.Mathlib.Omega.{arith}
 use lib.Dec.{eqb}
 use borrow.Author.Tests.{eqb-false}
 use Rattle.block.specs.Block.{current}
-use Rattle.tables.specs.Commands.{Outcome, tag, trim}
+use Rattle.tables.specs.declared.commands.Verb.the-variants.{Add}
+use Rattle.tables.specs.Commands.{Outcome, tag, Command, command, trim}
 use Rattle.intake.specs.declared.e820.Entry.{Entry}
 use Rattle.intake.specs.declared.e820.Becomes.{Becomes}
 use Rattle.intake.specs.declared.e820.Becomes.the-variants.{Added, PassedOver}
-use Rattle.intake.specs.E820.{entries, becomes, takeAs, entrySteps}
-use Rattle.intake.specs.Turns.{inTurn}
+use Rattle.intake.specs.E820.{entries, becomes, commandsAs, entryCommands, commands, entrySteps}
+use Rattle.intake.specs.Turns.{steps, inTurn}
 use Rattle.intake.proofs.Turns.{turn-last}
+use Rattle.intake.proofs.ByKind.{all-adds}
 use Rattle.intake.proofs.Whole.{not-refused}
-use Rattle.memblock.specs.Calls.{adds, Command, outcomeBy, outcomeOf}
+use Rattle.memblock.specs.Calls.{outcomeOf}
 use Rattle.memblock.specs.Reports.{OrderPromise}
 use Rattle.memblock.specs.Lists.{run, done, Agreed, sameCall, often, SameDone}
 use Rattle.memblock.proofs.DemandThree.{demand-three}
-
--- ---- the commands of a report
-
-abbrev addOf : Entry → Command
-addOf e = record { verb = adds (tag 0 0); base = e .base .0; size = e .size .0 }
-
-abbrev putBy : Becomes → Entry → List Command → List Command
-putBy Added e cs = addOf e ∷ cs
-putBy PassedOver e cs = cs
-
-unfoldable commands : List Entry → List Command
-commands [] = []
-commands (e ∷ es) = putBy (becomes (e .kind)) e (commands es)
-
-all-adds : (es : List Entry) (d : Command) → List·Memᴰ d (commands es) → d .verb ≡ adds (tag 0 0)
-unfolding commands
-all-adds [] d m = absurd (List·Memᴰ·not-nil m)
-all-adds (e ∷ es) d m = go (becomes (e .kind)) m (all-adds es d)
-  where
-    go : (k : Becomes) → List·Memᴰ d (putBy k e (commands es)) → (List·Memᴰ d (commands es) → d .verb ≡ adds (tag 0 0)) → d .verb ≡ adds (tag 0 0)
-    go Added (List·Memᴰ·head p) ih = ap (λ (x : Command). x .verb) p
-    go Added (List·Memᴰ·tail n) ih = ih n
-    go PassedOver n ih = ih n
 
 -- ---- taken in, they are all done
 
@@ -52,24 +31,27 @@ record AllDone (cs : List Command) (b : List ℕ) (o : Outcome) : Type 0 where
   ends : o ≡ trim current 4096 (run cs b)
 
 all-done : (es : List Entry) (b : List ℕ) → inTurn (entrySteps current es) b .number ≡ 0 → AllDone (commands es) b (inTurn (entrySteps current es) b)
-unfolding commands entrySteps inTurn run done outcomeBy
+unfolding commands entrySteps inTurn run done
 all-done [] b h = record { each = refl; ends = turn-last (trim current 4096) b }
 all-done (e ∷ es) b h = go (becomes (e .kind)) h (all-done es)
   where
-    go : (k : Becomes) → inTurn (takeAs k current e ∷ entrySteps current es) b .number ≡ 0
+    go : (k : Becomes) → inTurn (steps current (commandsAs k e ++ commands es) ++ (trim current 4096 ∷ [])) b .number ≡ 0
         → ((c : List ℕ) → inTurn (entrySteps current es) c .number ≡ 0 → AllDone (commands es) c (inTurn (entrySteps current es) c))
-        → AllDone (putBy k e (commands es)) b (inTurn (takeAs k current e ∷ entrySteps current es) b)
+        → AllDone (commandsAs k e ++ commands es) b (inTurn (steps current (commandsAs k e ++ commands es) ++ (trim current 4096 ∷ [])) b)
     go PassedOver z ih = ih b z
     go Added z ih = by (eqb (o .number) 0) refl z
       where
+        add : Command
+        add = command (Add (tag 0 0)) (e .base .0) (e .size .0)
+
         o : Outcome
-        o = outcomeOf (addOf e) b
+        o = outcomeOf add b
 
         by : (t : Bool) → eqb (o .number) 0 ≡ t → cond t (inTurn (entrySteps current es) (o .block)) o .number ≡ 0
-            → AllDone (addOf e ∷ commands es) b (cond t (inTurn (entrySteps current es) (o .block)) o)
+            → AllDone (add ∷ commands es) b (cond t (inTurn (entrySteps current es) (o .block)) o)
         by true f y =
             let r = ih (o .block) y in
-            record { each = rw f (ap (λ (cs : List Command). addOf e ∷ cs) (r .each)); ends = r .ends }
+            record { each = rw f (ap (λ (cs : List Command). add ∷ cs) (r .each)); ends = r .ends }
         by false f y = absurd (eqb-false (o .number) 0 f y)
 
 -- ---- each command as often
@@ -77,7 +59,7 @@ all-done (e ∷ es) b h = go (becomes (e .kind)) h (all-done es)
 module _ (d : Command) where
   -- how often an entry gives the command
   gives : Entry → ℕ
-  gives e = often d (putBy (becomes (e .kind)) e [])
+  gives e = often d (entryCommands e)
 
   often-more : (e : Entry) (es : List Entry) → often d (commands (e ∷ es)) ≡ gives e + often d (commands es)
   unfolding commands gives often
@@ -87,8 +69,8 @@ module _ (d : Command) where
       by true n = omega arith
       by false n = omega arith
 
-      go : (k : Becomes) → often d (putBy k e (commands es)) ≡ often d (putBy k e []) + often d (commands es)
-      go Added = by (sameCall d (addOf e)) (often d (commands es))
+      go : (k : Becomes) → often d (commandsAs k e ++ commands es) ≡ often d (commandsAs k e) + often d (commands es)
+      go Added = by (sameCall d (command (Add (tag 0 0)) (e .base .0) (e .size .0))) (often d (commands es))
       go PassedOver = omega arith
 
   same-often : {es fs : List Entry} → List·Permᴰ es fs → often d (commands es) ≡ often d (commands fs)

@@ -8,7 +8,8 @@ use Rattle.regions.specs.declared.Kind.{Kind}
 use Rattle.regions.specs.declared.State.{State}
 use Rattle.regions.specs.Meaning.{at}
 use Rattle.block.specs.Block.{current, listOf, contents, good}
-use Rattle.memblock.specs.Calls.{Command, outcomeOf}
+use Rattle.tables.specs.Commands.{Command}
+use Rattle.memblock.specs.Calls.{outcomeOf}
 use Rattle.memblock.specs.Lists.{run, done}
 use Rattle.memblock.proofs.Steps.{Refused, Done, step}
 use Rattle.memblock.proofs.Agreeing.{through}

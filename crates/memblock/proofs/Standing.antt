@@ -17,8 +17,8 @@ use Rattle.block.specs.Block.{current, settings, listOf, settingsBytes, content
 use Rattle.block.proofs.Blocks.{lists-ok, good-contents}
 use Rattle.block.proofs.Reading.{same-block}
 use Rattle.block.proofs.Fields.{good-settings, good-spare, settings-there}
-use Rattle.memblock.specs.Calls.{Command}
-use Rattle.memblock.specs.Lists.{table, covers, Agreed, Stands, Ends}
+use Rattle.tables.specs.Commands.{Command, table}
+use Rattle.memblock.specs.Lists.{covers, Agreed, Stands, Ends}
 use Rattle.memblock.proofs.Steps.{sameKind, works}
 use Rattle.memblock.proofs.Agreeing.{change-says, None, Only, through-none, through-only}
 use Rattle.memblock.proofs.Runs.{Ran}

@@ -11,56 +11,18 @@ use Rattle.regions.specs.declared.Kind.the-variants.{Memory, Taken}
 use Rattle.regions.specs.declared.Region.{Region}
 use Rattle.regions.specs.declared.State.{State}
 use Rattle.regions.specs.declared.Change.{Change}
-use Rattle.regions.specs.declared.Change.the-variants.{Fill, Clear, Mark, Unmark}
 use Rattle.regions.specs.Meaning.{inside, at}
-use Rattle.regions.specs.Lists.{legalTag, goodList}
+use Rattle.regions.specs.Lists.{goodList}
 use Rattle.regions.specs.Changes.{change, after, cut, changed}
-use Rattle.regions.proofs.Legal.{Keeps, fill-keeps, clear-keeps, mark-keeps, unmark-keeps, changed-at}
+use Rattle.regions.proofs.Legal.{changed-at}
 use Rattle.block.specs.Block.{current, capacity, Contents, listOf, withList, blockBytes, contents, good}
-use Rattle.tables.specs.Commands.{Outcome, outcome, unless, store, changeRange, tag, add, remove, mark, unmark, reserve, free}
+use Rattle.tables.specs.Commands.{Outcome, outcome, store, Command, table, changeOf, legalVerb, commandOutcome}
+use Rattle.tables.proofs.Verbs.{verb-keeps}
 use Rattle.block.proofs.Blocks.{lists-ok, good-contents}
 use Rattle.block.proofs.Layouts.{small-current}
 use Rattle.block.proofs.Kept.{Kept, change-kept}
-use Rattle.memblock.specs.Calls.{Verb, adds, removes, marks, unmarks, reserves, frees, Command, outcomeBy, outcomeOf}
-use Rattle.memblock.specs.Lists.{table, covers}
-
--- ---- the six commands as one
-
-abbrev pub changeOf : Verb → Change
-changeOf (adds t) = Fill t
-changeOf removes = Clear
-changeOf marks = Mark 4
-changeOf unmarks = Unmark 4
-changeOf reserves = Fill (tag 0 0)
-changeOf frees = Clear
-
--- the tag is legal: only add has one
-abbrev pub legalVerb : Verb → Bool
-legalVerb (adds t) = legalTag Memory t
-legalVerb removes = true
-legalVerb marks = true
-legalVerb unmarks = true
-legalVerb reserves = true
-legalVerb frees = true
-
-pub outcome-is : (v : Verb) (base size : ℕ) (b : List ℕ)
-    → outcomeBy v base size b ≡ unless (good current b) 1 b (unless (legalVerb v) 2 b (changeRange current (table v) (changeOf v) base size b))
-unfolding outcomeBy add remove mark unmark reserve free
-outcome-is (adds t) base size b = refl
-outcome-is removes base size b = refl
-outcome-is marks base size b = refl
-outcome-is unmarks base size b = refl
-outcome-is reserves base size b = refl
-outcome-is frees base size b = refl
-
-verb-keeps : (v : Verb) → legalVerb v ≡ true → Keeps (table v) (changeOf v)
-unfolding legalTag
-verb-keeps (adds t) e = fill-keeps Memory t e
-verb-keeps removes e = clear-keeps Memory
-verb-keeps marks e = mark-keeps
-verb-keeps unmarks e = unmark-keeps
-verb-keeps reserves e = fill-keeps Taken (tag 0 0) refl
-verb-keeps frees e = clear-keeps Taken
+use Rattle.memblock.specs.Calls.{outcomeOf}
+use Rattle.memblock.specs.Lists.{covers}
 
 -- ---- what a command makes of an address
 
@@ -128,15 +90,15 @@ module _ (d : Command) (b : List ℕ) (g : good current b ≡ true) where
   refused n z e = record { number = ap (λ (o : Outcome). eqb (o .number) 0) e ∙ z; block = ap (λ (o : Outcome). o .block) e }
 
   pub step : Refused d b ⊎ Done d b
-  unfolding finished store
+  unfolding finished commandOutcome store
   step = go (legalVerb (d .verb)) refl (leb (length finished) (capacity current (table (d .verb)))) refl
     where
       go : (l : Bool) → legalVerb (d .verb) ≡ l → (m : Bool) → leb (length finished) (capacity current (table (d .verb))) ≡ m → Refused d b ⊎ Done d b
-      go false e m f = inl (refused 2 refl (outcome-is (d .verb) (d .base) (d .size) b ∙ rw (g, e)))
-      go true e false f = inl (refused 6 refl (outcome-is (d .verb) (d .base) (d .size) b ∙ rw (g, e, f)))
+      go false e m f = inl (refused 2 refl (rw (g, e)))
+      go true e false f = inl (refused 6 refl (rw (g, e, f)))
       go true e true f =
           let x : List ℕ = blockBytes current (withList (contents current b) (table (d .verb)) finished) in
-          let o : outcomeOf d b ≡ outcome 0 x = outcome-is (d .verb) (d .base) (d .size) b ∙ rw (g, e, f) in
+          let o : outcomeOf d b ≡ outcome 0 x = rw (g, e, f) in
           let m : Made d b x =
           kept-made x (change-kept current small-current b g (table (d .verb)) (changeOf (d .verb)) (d .base) (d .size) (verb-keeps (d .verb) e) f) in
           inr (record { number = ap (λ (y : Outcome). eqb (y .number) 0) o; block = rw (ap (λ (y : Outcome). y .block) o) m })

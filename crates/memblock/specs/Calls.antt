@@ -1,38 +1,16 @@
--- Calls as data: every entry point with its numbers and the slip it is lent, and a list of calls on one block. Assumes nothing.
+-- The table of calls: every entry point with its numbers and what else it is lent, and what it answers and leaves; the contract of each exported function
+-- is the equation with its line here. Then lists of calls on one block. Assumes nothing.
 use Prim.Native.Nat.{ℕ}
 use mathlib.Core.List.{List, [], _∷_}
-use Rattle.regions.specs.declared.Tag.{Tag}
 use Rattle.block.specs.Block.{current}
-use Rattle.tables.specs.Commands.{Outcome, fresh, set, add, remove, mark, unmark, reserve, free, trim}
+use Rattle.tables.specs.Commands.{Outcome, fresh, set, Command, commandOutcome, trim}
 use Rattle.intake.specs.E820.{intakeE820}
 use Rattle.runs.specs.declared.Query.{Query}
 use Rattle.search.specs.Answers.{Answer, answer, find, allocate, nextFree}
 
--- the six commands of document 01's lists, each whatever its range; add has its tag
-pub data Verb : Type 0 where
-  adds : Tag → Verb
-  removes : Verb
-  marks : Verb
-  unmarks : Verb
-  reserves : Verb
-  frees : Verb
-
-pub record Command : Type 0 where
-  pub verb : Verb
-  pub base : ℕ
-  pub size : ℕ
-
--- what a command answers and leaves: the definition that the contract of its exported function cites
-unfoldable pub outcomeBy : Verb → ℕ → ℕ → List ℕ → Outcome
-outcomeBy (adds t) base size b = add current base size (t .flags) (t .node) b
-outcomeBy removes base size b = remove current base size b
-outcomeBy marks base size b = mark current base size b
-outcomeBy unmarks base size b = unmark current base size b
-outcomeBy reserves base size b = reserve current base size b
-outcomeBy frees base size b = free current base size b
-
+-- what a command on a range answers and leaves
 abbrev pub outcomeOf : Command → List ℕ → Outcome
-outcomeOf c b = outcomeBy (c .verb) (c .base) (c .size) b
+outcomeOf c b = commandOutcome current c b
 
 -- a call of any entry point; a slip is lent anew to each call that takes one
 pub data Call : Type 0 where
@@ -49,7 +27,7 @@ pub data Call : Type 0 where
 abbrev pub plain : Outcome → Answer
 plain o = answer (o .number) (o .block) []
 
--- the number, the block and the slip after a call
+-- the number, the block and the slip after a call, for any bytes
 unfoldable pub answerOf : Call → List ℕ → Answer
 answerOf toFresh b = plain (fresh current b)
 answerOf (toSet limit direction) b = plain (set current limit direction b)

@@ -6,10 +6,11 @@ use lib.ListN.{replicate}
 use Rattle.regions.specs.declared.Region.{Region}
 use Rattle.regions.specs.Meaning.{region, at, total, top}
 use Rattle.block.specs.Block.{current, freshContents, blockBytes, contents}
-use Rattle.tables.specs.Commands.{tag}
+use Rattle.tables.specs.declared.commands.Verb.the-variants.{Add, Reserve, Free}
+use Rattle.tables.specs.Commands.{tag, command}
 use Rattle.runs.specs.Eligible.{query}
 use Rattle.search.specs.Answers.{Answer, slipOf}
-use Rattle.memblock.specs.Calls.{Call, toSet, toCommand, toTrim, toFind, toAllocate, adds, reserves, frees, answers, leaves}
+use Rattle.memblock.specs.Calls.{Call, toSet, toCommand, toTrim, toFind, toAllocate, answers, leaves}
 
 pub record Case : Type 0 where
   pub calls : List Call
@@ -40,13 +41,13 @@ AllHold (c ∷ cs) = Holds c × AllHold cs
 -- ---- calls, by their numbers; what a case leaves unsaid is flags 0, node 0, start 0, end 0 and any node
 
 abbrev pub add : ℕ → ℕ → ℕ → Call
-add base size node = toCommand (record { verb = adds (tag 0 node); base = base; size = size })
+add base size node = toCommand (command (Add (tag 0 node)) base size)
 
 abbrev pub reserve : ℕ → ℕ → Call
-reserve base size = toCommand (record { verb = reserves; base = base; size = size })
+reserve base size = toCommand (command Reserve base size)
 
 abbrev pub free : ℕ → ℕ → Call
-free base size = toCommand (record { verb = frees; base = base; size = size })
+free base size = toCommand (command Free base size)
 
 abbrev pub bottomUp : Call
 bottomUp = toSet (2 ^ 64 - 1) 1

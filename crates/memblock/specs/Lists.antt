@@ -7,15 +7,16 @@ use mathlib.Core.Logic.{_⊎_}
 use lib.Dec.{eqb}
 use lib.ListN.{take, drop}
 use Rattle.regions.specs.declared.Kind.{Kind}
-use Rattle.regions.specs.declared.Kind.the-variants.{Memory, Taken}
 use Rattle.regions.specs.declared.Tag.{Tag}
 use Rattle.regions.specs.declared.State.{State}
 use Rattle.regions.specs.declared.State.the-variants.{Absent, Present}
 use Rattle.regions.specs.Meaning.{inside, at, sameTag}
 use Rattle.regions.specs.Changes.{cut, setFlag, clearFlag}
 use Rattle.block.specs.Block.{current, listOf, contents, good}
-use Rattle.tables.specs.Commands.{tag}
-use Rattle.memblock.specs.Calls.{Verb, adds, removes, marks, unmarks, reserves, frees, Command, outcomeOf, Call, answers}
+use Rattle.tables.specs.Commands.{tag, Command, table}
+use Rattle.tables.specs.declared.commands.Verb.{Verb}
+use Rattle.tables.specs.declared.commands.Verb.the-variants.{Add, Remove, Mark, Unmark, Reserve, Free}
+use Rattle.memblock.specs.Calls.{outcomeOf, Call, answers}
 
 -- ---- running a list
 
@@ -31,15 +32,6 @@ done (c ∷ cs) b = cond (eqb (outcomeOf c b .number) 0) (c ∷ done cs (outcome
 
 -- ---- what a command works on
 
--- add, remove, mark and unmark work on the memory table, reserve and free on the taken table
-abbrev pub table : Verb → Kind
-table (adds t) = Memory
-table removes = Memory
-table marks = Memory
-table unmarks = Memory
-table reserves = Taken
-table frees = Taken
-
 -- a command covers the addresses of its range after the cut at the top; a size of 0 covers none
 abbrev pub covers : Command → ℕ → Bool
 covers c a = inside (c .base) (cut (c .base) (c .size)) a
@@ -54,15 +46,15 @@ Agreed ds =
 
 -- of an address that stood as v at the start, as document 01 lists it
 unfoldable pub says : Verb → State → State
-says (adds t) Absent = Present t
-says (adds t) (Present u) = Present u
-says removes v = Absent
-says marks Absent = Absent
-says marks (Present t) = Present (tag (setFlag 4 (t .flags)) (t .node))
-says unmarks Absent = Absent
-says unmarks (Present t) = Present (tag (clearFlag 4 (t .flags)) (t .node))
-says reserves v = Present (tag 0 0)
-says frees v = Absent
+says (Add t) Absent = Present t
+says (Add t) (Present u) = Present u
+says Remove v = Absent
+says Mark Absent = Absent
+says Mark (Present t) = Present (tag (setFlag 4 (t .flags)) (t .node))
+says Unmark Absent = Absent
+says Unmark (Present t) = Present (tag (clearFlag 4 (t .flags)) (t .node))
+says Reserve v = Present (tag 0 0)
+says Free v = Absent
 
 -- v is how the address stands in the table k at the end: as a command of the list that works there and covers it says, or, where none does, as at the start
 pub record Stands (ds : List Command) (k : Kind) (a : ℕ) (start v : State) : Type 0 where
@@ -73,20 +65,20 @@ pub record Stands (ds : List Command) (k : Kind) (a : ℕ) (start v : State) : T
 
 -- which of the six, and add's tag
 abbrev pub code : Verb → ℕ
-code (adds t) = 1
-code removes = 2
-code marks = 3
-code unmarks = 4
-code reserves = 5
-code frees = 6
+code (Add t) = 1
+code Remove = 2
+code Mark = 3
+code Unmark = 4
+code Reserve = 5
+code Free = 6
 
 abbrev pub tagOf : Verb → Tag
-tagOf (adds t) = t
-tagOf removes = tag 0 0
-tagOf marks = tag 0 0
-tagOf unmarks = tag 0 0
-tagOf reserves = tag 0 0
-tagOf frees = tag 0 0
+tagOf (Add t) = t
+tagOf Remove = tag 0 0
+tagOf Mark = tag 0 0
+tagOf Unmark = tag 0 0
+tagOf Reserve = tag 0 0
+tagOf Free = tag 0 0
 
 -- the same call with the same numbers
 abbrev pub sameCall : Command → Command → Bool

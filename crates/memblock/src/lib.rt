@@ -1,19 +1,23 @@
-// The functions that boot code calls. Each takes numbers and lent bytes, answers document 01's number, and asks nothing of its caller.
+// The functions that boot code calls. Each takes numbers and lent bytes, answers document 01's number, and asks nothing of its caller. Its contract is
+// the equation with its line in the table of calls.
 use address::Address;
 use address::Size;
 use regions::Tag;
 use runs::Query;
+use tables::commands::Verb;
+use tables::commands::on_range;
 ghost use mathlib.Core.Path.{_≡_};
-ghost use Rattle.block.specs.Block.{current};
-ghost use Rattle.intake.specs.E820.{intakeE820};
+ghost use mathlib.Core.List.{[]};
 ghost use Rattle.runs.specs.Eligible.{query};
-ghost use Rattle.search.specs.Answers.{answer, find, nextFree, allocate};
-ghost use Rattle.tables.specs.Commands.{outcome, fresh, set, add, remove, mark, unmark, reserve, free, trim};
+ghost use Rattle.search.specs.Answers.{answer};
+ghost use Rattle.tables.specs.declared.commands.Verb.the-variants.{Add, Remove, Mark, Unmark, Reserve, Free};
+ghost use Rattle.tables.specs.Commands.{tag, command};
+ghost use Rattle.memblock.specs.Calls.{toFresh, toSet, toCommand, toTrim, toFind, toNextFree, toAllocate, toIntake, answerOf};
 
 // Writes a fresh block over any 6,224 bytes.
 #[no_mangle]
 pub extern "C" fn memblock_fresh(block: &mut [u8]) -> u32
-    ensures { λ r. ⌜ outcome r (now (block .exit)) ≡ fresh current (now (block .entry)) ⌝ }
+    ensures { λ r. ⌜ answer r (now (block .exit)) [] ≡ answerOf toFresh (now (block .entry)) ⌝ }
 {
     tables::commands::fresh(block)
 }
@@ -21,7 +25,7 @@ pub extern "C" fn memblock_fresh(block: &mut [u8]) -> u32
 // Stores a limit and a direction (0 top-down, 1 bottom-up).
 #[no_mangle]
 pub extern "C" fn memblock_set(block: &mut [u8], limit: u64, direction: u32) -> u32
-    ensures { λ r. ⌜ outcome r (now (block .exit)) ≡ set current limit direction (now (block .entry)) ⌝ }
+    ensures { λ r. ⌜ answer r (now (block .exit)) [] ≡ answerOf (toSet limit direction) (now (block .entry)) ⌝ }
 {
     tables::commands::set(block, Address(limit), direction)
 }
@@ -29,55 +33,60 @@ pub extern "C" fn memblock_set(block: &mut [u8], limit: u64, direction: u32) -> 
 // Gives the tag to each address of the range not yet in memory.
 #[no_mangle]
 pub extern "C" fn memblock_add(block: &mut [u8], base: u64, size: u64, flags: u32, node: u32) -> u32
-    ensures { λ r. ⌜ outcome r (now (block .exit)) ≡ add current base size flags node (now (block .entry)) ⌝ }
+    ensures { λ r. ⌜ answer r (now (block .exit)) [] ≡ answerOf (toCommand (command (Add (tag flags node)) base size)) (now (block .entry)) ⌝ }
 {
-    tables::commands::add(block, Address(base), Size(size), Tag { flags, node })
+    on_range(
+        block,
+        Verb::Add(Tag { flags, node }),
+        Address(base),
+        Size(size),
+    )
 }
 
 // Takes addresses out of memory.
 #[no_mangle]
 pub extern "C" fn memblock_remove(block: &mut [u8], base: u64, size: u64) -> u32
-    ensures { λ r. ⌜ outcome r (now (block .exit)) ≡ remove current base size (now (block .entry)) ⌝ }
+    ensures { λ r. ⌜ answer r (now (block .exit)) [] ≡ answerOf (toCommand (command Remove base size)) (now (block .entry)) ⌝ }
 {
-    tables::commands::remove(block, Address(base), Size(size))
+    on_range(block, Verb::Remove, Address(base), Size(size))
 }
 
 // Sets no-map on the range's addresses that are in memory.
 #[no_mangle]
 pub extern "C" fn memblock_mark(block: &mut [u8], base: u64, size: u64) -> u32
-    ensures { λ r. ⌜ outcome r (now (block .exit)) ≡ mark current base size (now (block .entry)) ⌝ }
+    ensures { λ r. ⌜ answer r (now (block .exit)) [] ≡ answerOf (toCommand (command Mark base size)) (now (block .entry)) ⌝ }
 {
-    tables::commands::mark(block, Address(base), Size(size))
+    on_range(block, Verb::Mark, Address(base), Size(size))
 }
 
 // Clears no-map on them.
 #[no_mangle]
 pub extern "C" fn memblock_unmark(block: &mut [u8], base: u64, size: u64) -> u32
-    ensures { λ r. ⌜ outcome r (now (block .exit)) ≡ unmark current base size (now (block .entry)) ⌝ }
+    ensures { λ r. ⌜ answer r (now (block .exit)) [] ≡ answerOf (toCommand (command Unmark base size)) (now (block .entry)) ⌝ }
 {
-    tables::commands::unmark(block, Address(base), Size(size))
+    on_range(block, Verb::Unmark, Address(base), Size(size))
 }
 
 // Puts addresses into the taken set.
 #[no_mangle]
 pub extern "C" fn memblock_reserve(block: &mut [u8], base: u64, size: u64) -> u32
-    ensures { λ r. ⌜ outcome r (now (block .exit)) ≡ reserve current base size (now (block .entry)) ⌝ }
+    ensures { λ r. ⌜ answer r (now (block .exit)) [] ≡ answerOf (toCommand (command Reserve base size)) (now (block .entry)) ⌝ }
 {
-    tables::commands::reserve(block, Address(base), Size(size))
+    on_range(block, Verb::Reserve, Address(base), Size(size))
 }
 
 // Takes addresses out of it.
 #[no_mangle]
 pub extern "C" fn memblock_free(block: &mut [u8], base: u64, size: u64) -> u32
-    ensures { λ r. ⌜ outcome r (now (block .exit)) ≡ free current base size (now (block .entry)) ⌝ }
+    ensures { λ r. ⌜ answer r (now (block .exit)) [] ≡ answerOf (toCommand (command Free base size)) (now (block .entry)) ⌝ }
 {
-    tables::commands::free(block, Address(base), Size(size))
+    on_range(block, Verb::Free, Address(base), Size(size))
 }
 
 // Rounds each memory record's base up and its end down by an alignment; one of which nothing is left goes.
 #[no_mangle]
 pub extern "C" fn memblock_trim(block: &mut [u8], alignment: u64) -> u32
-    ensures { λ r. ⌜ outcome r (now (block .exit)) ≡ trim current alignment (now (block .entry)) ⌝ }
+    ensures { λ r. ⌜ answer r (now (block .exit)) [] ≡ answerOf (toTrim alignment) (now (block .entry)) ⌝ }
 {
     tables::commands::trim(block, Size(alignment))
 }
@@ -85,7 +94,7 @@ pub extern "C" fn memblock_trim(block: &mut [u8], alignment: u64) -> u32
 // Writes the lowest free address at or above `from` of the node asked for, and the end of its free run. The block stays.
 #[no_mangle]
 pub extern "C" fn memblock_next_free(block: &[u8], from: u64, node: u32, slip: &mut [u8]) -> u32
-    ensures { λ r. ⌜ answer r (now (block .entry)) (now (slip .exit)) ≡ nextFree current from node (now (block .entry)) (now (slip .entry)) ⌝ }
+    ensures { λ r. ⌜ answer r (now (block .entry)) (now (slip .exit)) ≡ answerOf (toNextFree from node (now (slip .entry))) (now (block .entry)) ⌝ }
 {
     search::find::next_free(block, Address(from), node, slip)
 }
@@ -101,7 +110,7 @@ pub extern "C" fn memblock_find(
     node: u32,
     slip: &mut [u8],
 ) -> u32
-    ensures { λ r. ⌜ answer r (now (block .entry)) (now (slip .exit)) ≡ find current (query size alignment start end node) (now (block .entry)) (now (slip .entry)) ⌝ }
+    ensures { λ r. ⌜ answer r (now (block .entry)) (now (slip .exit)) ≡ answerOf (toFind (query size alignment start end node) (now (slip .entry))) (now (block .entry)) ⌝ }
 {
     let q = Query {
         size: Size(size),
@@ -124,7 +133,7 @@ pub extern "C" fn memblock_allocate(
     node: u32,
     slip: &mut [u8],
 ) -> u32
-    ensures { λ r. ⌜ answer r (now (block .exit)) (now (slip .exit)) ≡ allocate current (query size alignment start end node) (now (block .entry)) (now (slip .entry)) ⌝ }
+    ensures { λ r. ⌜ answer r (now (block .exit)) (now (slip .exit)) ≡ answerOf (toAllocate (query size alignment start end node) (now (slip .entry))) (now (block .entry)) ⌝ }
 {
     let q = Query {
         size: Size(size),
@@ -139,7 +148,7 @@ pub extern "C" fn memblock_allocate(
 // Takes an E820 report in, whole or not at all.
 #[no_mangle]
 pub extern "C" fn memblock_intake_e820(block: &mut [u8], report: &[u8]) -> u32
-    ensures { λ r. ⌜ outcome r (now (block .exit)) ≡ intakeE820 current (now (report .entry)) (now (block .entry)) ⌝ }
+    ensures { λ r. ⌜ answer r (now (block .exit)) [] ≡ answerOf (toIntake (now (report .entry))) (now (block .entry)) ⌝ }
 {
     intake::e820::intake(block, report)
 }

@@ -79,7 +79,7 @@ bytes-add (suc j) k v =
     ∙ ap (λ (n : ℕ). bytes j (v / 256) ++ bytes k n) (div-div-eq-div-mul v 256 (256 ^ j) ∙ ap (λ (n : ℕ). v / n) (mul-comm 256 (256 ^ j) ∙ sym (pow-suc 256 j)))))
 
 -- only the low k bytes count
-bytes-mod : (k v : ℕ) → bytes k (v % 256 ^ k) ≡ bytes k v
+pub bytes-mod : (k v : ℕ) → bytes k (v % 256 ^ k) ≡ bytes k v
 unfolding bytes
 bytes-mod zero v = refl
 bytes-mod (suc k) v =

@@ -5,63 +5,34 @@ use mathlib.Core.Bool.{Bool, true, false, not}
 use mathlib.Core.List.{List}
 use borrow.Author.Tests.{not-true, not-false}
 use Rattle.address.specs.Numbers.{powerOfTwo}
-use Rattle.regions.specs.declared.Kind.the-variants.{Memory, Taken}
-use Rattle.regions.specs.declared.Tag.{Tag}
-use Rattle.regions.specs.declared.Change.the-variants.{Fill, Clear, Mark, Unmark}
-use Rattle.regions.specs.Lists.{legalTag}
+use Rattle.regions.specs.declared.Kind.{Kind}
+use Rattle.regions.specs.declared.Kind.the-variants.{Memory}
+use Rattle.regions.specs.declared.Change.{Change}
 use Rattle.regions.specs.Trim.{trimmedList}
 use Rattle.block.specs.declared.Layout.{Layout}
 use Rattle.block.specs.Block.{current, withList, blockBytes, contents, good}
-use Rattle.tables.specs.Commands.{Outcome, outcome, unless, changeRange, tag, add, remove, mark, unmark, reserve, free, trim}
+use Rattle.tables.specs.declared.commands.Verb.{Verb}
+use Rattle.tables.specs.Commands.{Outcome, outcome, changeRange, command, table, changeOf, legalVerb, commandOutcome, trim}
 use Rattle.block.proofs.Blocks.{bad-here, good-here}
 
-module _ (l : Layout) (is : l ≡ current) (b : List ℕ) (g : Bool) (q : g ≡ good l b) where
-  pub range-bad : (o : Outcome) → not g ≡ true → outcome 1 b ≡ unless (good current b) 1 b o
-  range-bad o t = rw (bad-here l is b g q t)
+-- past its checks, a command is the change
+pub command-changes : (b : List ℕ) (v : Verb) (base size : ℕ) → good current b ≡ true → legalVerb v ≡ true → (k : Kind) → k ≡ table v → (c : Change) → c ≡ changeOf v
+    → (o : Outcome) → o ≡ changeRange current k c base size b → o ≡ commandOutcome current (command v base size) b
+unfolding commandOutcome
+command-changes b v base size g h k p c q o e = rw (g, h, ← p, ← q) e
 
-  pub range-good : (o p : Outcome) → not g ≡ false → o ≡ p → o ≡ unless (good current b) 1 b p
-  range-good o p t e = rw (good-here l is b g q t) e
+module _ (l : Layout) (is : l ≡ current) (b : List ℕ) (g : Bool) (q : g ≡ good l b) (v : Verb) (base size : ℕ) where
+  pub command-bad : not g ≡ true → outcome 1 b ≡ commandOutcome current (command v base size) b
+  unfolding commandOutcome
+  command-bad t = rw (bad-here l is b g q t)
 
-  module _ (base size : ℕ) (t : Tag) where
-    pub add-bad : not g ≡ true → outcome 1 b ≡ add current base size (t .flags) (t .node) b
-    unfolding add
-    add-bad n = rw (bad-here l is b g q n)
+  module _ (n : not g ≡ false) (x : Bool) (p : x ≡ legalVerb v) where
+    pub command-tag : not x ≡ true → outcome 2 b ≡ commandOutcome current (command v base size) b
+    unfolding commandOutcome
+    command-tag u = rw (good-here l is b g q n, ← p, not-true x u)
 
-    module _ (n : not g ≡ false) (x : Bool) (p : x ≡ legalTag Memory t) where
-      pub add-tag : not x ≡ true → outcome 2 b ≡ add current base size (t .flags) (t .node) b
-      unfolding add
-      add-tag u = rw (good-here l is b g q n, ← p, not-true x u)
-
-      pub tag-legal : not x ≡ false → legalTag Memory t ≡ true
-      tag-legal u = sym p ∙ not-false x u
-
--- past its checks, add is the change
-pub add-changes : (b : List ℕ) (base size : ℕ) (t : Tag) → good current b ≡ true → legalTag Memory t ≡ true → (o : Outcome) → o ≡ changeRange current Memory (Fill t) base size b
-    → o ≡ add current base size (t .flags) (t .node) b
-unfolding add
-add-changes b base size t g h o e = rw (g, h) e
-
--- the five that have no tag to check
-module _ (base size : ℕ) (b : List ℕ) (o : Outcome) where
-  pub remove-is : o ≡ unless (good current b) 1 b (changeRange current Memory Clear base size b) → o ≡ remove current base size b
-  unfolding remove
-  remove-is e = e
-
-  pub mark-is : o ≡ unless (good current b) 1 b (changeRange current Memory (Mark 4) base size b) → o ≡ mark current base size b
-  unfolding mark
-  mark-is e = e
-
-  pub unmark-is : o ≡ unless (good current b) 1 b (changeRange current Memory (Unmark 4) base size b) → o ≡ unmark current base size b
-  unfolding unmark
-  unmark-is e = e
-
-  pub reserve-is : o ≡ unless (good current b) 1 b (changeRange current Taken (Fill (tag 0 0)) base size b) → o ≡ reserve current base size b
-  unfolding reserve
-  reserve-is e = e
-
-  pub free-is : o ≡ unless (good current b) 1 b (changeRange current Taken Clear base size b) → o ≡ free current base size b
-  unfolding free
-  free-is e = e
+    pub verb-legal : not x ≡ false → legalVerb v ≡ true
+    verb-legal u = sym p ∙ not-false x u
 
 -- ---- trim
 

@@ -1,6 +1,9 @@
 pub mod Commanding
+pub mod Front
+pub mod Good
 pub mod Printed
 pub mod Ranging
 pub mod Setting
 pub mod Storing
 pub mod Unchanged
+pub mod Verbs

@@ -22,7 +22,8 @@ use Rattle.regions.specs.Steps.{stretch}
 use Rattle.regions.proofs.Twins.{walk, update}
 use Rattle.regions.proofs.Update.{update-shortest}
 use Rattle.block.specs.Block.{current, capacity, offset, withList, freshContents, entryBytes, entriesBytes, settingsBytes, totalsBytes, headerBytes, blockBytes, goodTable, goodContents, good}
-use Rattle.tables.specs.Commands.{outcome, tag, fresh, store, add}
+use Rattle.tables.specs.declared.commands.Verb.the-variants.{Add}
+use Rattle.tables.specs.Commands.{outcome, tag, fresh, store, command, commandOutcome}
 use Rattle.block.proofs.Layouts.{small-current}
 use Rattle.tables.proofs.Setting.{freshHeader, total-empty, fresh-spelled}
 use Rattle.block.proofs.Reading.{Spellable, contents-spelled, good-spelled-block}
@@ -61,7 +62,7 @@ pub fresh-printed : (b : List ℕ) → length b ≡ 6224 → fresh current b ≡
 unfolding fresh
 fresh-printed b e = rw (eq-eqb (length b) 6224 e, fresh-block)
 
-fresh-spellable : Spellable current freshContents
+pub fresh-spellable : Spellable current freshContents
 unfolding goodContents goodTable goodList rises legal capacity
 fresh-spellable =
     let t : rises 0 Absent top [] ≡ true = le-leb 0 top (omega arith) in
@@ -100,8 +101,8 @@ unfolding blockBytes headerBytes entriesBytes entryBytes settingsBytes totalsByt
 first-block = rw (first-total, total-empty) (ap (λ (x : List ℕ). addPrinted ++ x) (replicate-append-replicate 3048 3072 0))
 
 -- add to the fresh block
-pub add-printed : add current 0x1000 0x1000 0 0 (freshPrinted ++ replicate 6144 0) ≡ outcome 0 (addPrinted ++ replicate 6120 0)
-unfolding add store legalTag capacity
+pub add-printed : commandOutcome current (command (Add (tag 0 0)) 0x1000 0x1000) (freshPrinted ++ replicate 6144 0) ≡ outcome 0 (addPrinted ++ replicate 6120 0)
+unfolding commandOutcome store legalTag capacity
 add-printed =
     let s = fresh-spellable in
     rw (

@@ -44,9 +44,9 @@ use Rattle.records.specs.Totals.{tally}
 use Rattle.block.specs.Checks.{tallyOf, withTally}
 use Rattle.records.specs.Steps.{Table, Whole}
 use Rattle.change.specs.Steps.{AllTagged, Uniform, Vacant, Changeable, Stored, Trimmed, storedAnswer, storedBytes}
-use Rattle.tables.specs.Steps.{Known}
+use Rattle.tables.specs.Steps.{Known, storeChanged}
 use Rattle.lists.specs.Steps.{Editable}
-use Rattle.tables.specs.Commands.{outcome, store, tag, changeRange}
+use Rattle.tables.specs.Commands.{Outcome, outcome, store, tag, changeRange}
 use Rattle.block.proofs.Blocks.{room, lists-ok, good-contents, part-zeros}
 use Rattle.tables.proofs.Storing.{capacity-bound, scratch-room, span-part, span-room, block-stored}
 
@@ -162,7 +162,7 @@ module _ (b : List ℕ) (g : good current b ≡ true) (k : Kind) (a e : ℕ) (ea
           go true q = absurd (let z : _≡_ {A = ℕ} 0 1 = cc in omega arith)
           go false q = refl
 
-      pub range-full : p ≡ NoRoom → outcome 6 (take a b ++ (x ++ drop (e - a) (drop a b))) ≡ changeRange current k c (base .0) size b
+      range-full : p ≡ NoRoom → outcome 6 (take a b ++ (x ++ drop (e - a) (drop a b))) ≡ changeRange current k c (base .0) size b
       unfolding store storedBytes
       range-full f =
           let n = no-room f in
@@ -179,16 +179,24 @@ module _ (b : List ℕ) (g : good current b ≡ true) (k : Kind) (a e : ℕ) (ea
             go true q = (refl, cc)
             go false q = absurd (let z : _≡_ {A = ℕ} 0 1 = cc in omega arith)
 
-        pub range-done : Bytes b → (l : Layout) → l ≡ current → (o : Header) → o ≡ withTally h k y → (z : List ℕ) → z ≡ sets (take a b ++ (x ++ drop (e - a) (drop a b))) 0 (headerBytes l o)
-            → outcome 0 z ≡ changeRange current k c (base .0) size b
+        range-done : Bytes b → outcome 0 (sets (take a b ++ (x ++ drop (e - a) (drop a b))) 0 (headerBytes current (withTally h k y))) ≡ changeRange current k c (base .0) size b
         unfolding store storedBytes
-        range-done bs l el o eo z ez =
+        range-done bs =
             let v = told in
             let m = leb-true (length (changed c (base .0) size (listOf (contents current b) k))) (capacity current k) (v .0) in
             let u : x ≡ tableBytes (length (take (e - a) (drop a b)) / 24) (changed c (base .0) size (listOf (contents current b) k)) = left ∙ rw (v .0, room-is) in
             let r = block-stored b bs g k a e ea ee (changed c (base .0) size (listOf (contents current b) k)) x u (y .count) (ap (λ (q : Tally). q .count) (v .1)) (omega (arith, ap (λ (q : Tally). q .count) (v .1))) h eh
-            (y .total) (ap (λ (q : Tally). q .total .0) (v .1)) l el o eo z ez in
+            (y .total) (ap (λ (q : Tally). q .total .0) (v .1)) current refl (withTally h k y) refl _ refl in
             rw (v .0, r)
+
+      -- the changed table's answer, stored, is the outcome
+      pub range-stored : Bytes b → (o : Outcome) → o ≡ storeChanged h k p (take a b ++ (x ++ drop (e - a) (drop a b))) → o ≡ changeRange current k c (base .0) size b
+      unfolding storeChanged
+      range-stored bs o q = go p refl q
+        where
+          go : (r : Changed) → p ≡ r → o ≡ storeChanged h k r (take a b ++ (x ++ drop (e - a) (drop a b))) → o ≡ changeRange current k c (base .0) size b
+          go NoRoom f n = n ∙ range-full f
+          go (To y) f n = n ∙ range-done y f bs
 
 -- ---- trim
 
@@ -216,3 +224,15 @@ module _ (b : List ℕ) (g : good current b ≡ true) (a e : ℕ) (ea : a ≡ of
         room current (contents current b) (good-contents current b g) Memory,
       ) in
       block-stored b bs g Memory a e ea ee (trimmedList (k .0) (contents current b .memory)) x u (y .count) c r h eh (y .total) (ap (λ (v : Tally). v .total .0) q) l el o eo z ez
+
+-- ---- a changed table's answer, as the code gives it
+
+module _ (own : Header) (k : Kind) (p : Changed) (b : List ℕ) where
+  pub stored-full : p ≡ NoRoom → outcome 6 b ≡ storeChanged own k p b
+  unfolding storeChanged
+  stored-full f = rw f
+
+  pub stored-to : (y : Tally) → p ≡ To y → (l : Layout) → l ≡ current → (o : Header) → o ≡ withTally own k y → (z : List ℕ) → z ≡ sets b 0 (headerBytes l o)
+      → outcome 0 z ≡ storeChanged own k p b
+  unfolding storeChanged
+  stored-to y f l el o eo z ez = rw (f, ez, el, eo)

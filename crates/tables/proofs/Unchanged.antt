@@ -22,7 +22,8 @@ use Rattle.regions.proofs.RoundTrip.{inside-hi, round-trip}
 use Rattle.regions.proofs.Good.{good-rises}
 use Rattle.block.specs.declared.Layout.{Layout}
 use Rattle.block.specs.Block.{capacity, Contents, listOf, withList, contents, good}
-use Rattle.tables.specs.Commands.{done, store, changeRange, free}
+use Rattle.tables.specs.declared.commands.Verb.the-variants.{Free}
+use Rattle.tables.specs.Commands.{done, store, changeRange, command, commandOutcome}
 use Rattle.block.proofs.Blocks.{room, lists-ok, good-contents, good-spelled}
 
 -- each address from base to the cut end of the range stands as the change leaves it
@@ -65,6 +66,6 @@ module _ (L : Layout) (b : List ℕ) (g : good L b ≡ true) where
           omega (arith, inside-hi base (cut base 0) a e, leb-true base a (both (leb base a) _ e .0))
 
   -- freeing what is not taken changes nothing
-  pub free-untaken : (base size : ℕ) → ((a : ℕ) → inside base (cut base size) a ≡ true → at (contents L b .taken) a ≡ Absent) → free L base size b ≡ done b
-  unfolding free change
+  pub free-untaken : (base size : ℕ) → ((a : ℕ) → inside base (cut base size) a ≡ true → at (contents L b .taken) a ≡ Absent) → commandOutcome L (command Free base size) b ≡ done b
+  unfolding commandOutcome change
   free-untaken base size h = rw g (unchanged Taken Clear base size (λ a e. sym (h a e)))

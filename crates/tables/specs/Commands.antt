@@ -1,6 +1,6 @@
 -- What each command on the tables answers and leaves, for all inputs: refusals in document 01's order. Assumes nothing.
 use Prim.Native.Nat.{ℕ}
-use mathlib.Core.Bool.{Bool, cond}
+use mathlib.Core.Bool.{Bool, true, cond}
 use mathlib.Core.List.{List}
 use lib.Dec.{leb, eqb}
 use lib.ListN.{length}
@@ -10,11 +10,13 @@ use Rattle.regions.specs.declared.Kind.the-variants.{Memory, Taken}
 use Rattle.regions.specs.declared.Tag.{Tag}
 use Rattle.regions.specs.declared.Region.{Region}
 use Rattle.regions.specs.declared.Change.{Change}
-use Rattle.regions.specs.declared.Change.the-variants.{Fill, Clear, Mark, Unmark}
+use Rattle.regions.specs.declared.Change.the-variants as Change
 use Rattle.regions.specs.Lists.{legalTag}
 use Rattle.regions.specs.Changes.{changed}
 use Rattle.regions.specs.Trim.{trimmedList}
 use Rattle.block.specs.declared.Layout.{Layout}
+use Rattle.tables.specs.declared.commands.Verb.{Verb}
+use Rattle.tables.specs.declared.commands.Verb.the-variants.{Add, Remove, Mark, Unmark, Reserve, Free}
 use Rattle.block.specs.Block.{blockLength, capacity, settings, listOf, withList, freshContents, blockBytes, contents, good}
 
 -- the number that boot code gets back, and every byte of the block after the call
@@ -54,26 +56,50 @@ changeRange L k c base size b = store L k (changed c base size (listOf (contents
 abbrev pub tag : ℕ → ℕ → Tag
 tag flags node = record { flags = flags; node = node }
 
-unfoldable pub add : Layout → ℕ → ℕ → ℕ → ℕ → List ℕ → Outcome
-add L base size flags node b =
-    unless (good L b) 1 b (unless (legalTag Memory (tag flags node)) 2 b (changeRange L Memory (Fill (tag flags node)) base size b))
+-- ---- the commands on a range
 
-unfoldable pub remove : Layout → ℕ → ℕ → List ℕ → Outcome
-remove L base size b = unless (good L b) 1 b (changeRange L Memory Clear base size b)
+-- one of the six, whatever its range, and the range
+pub record Command : Type 0 where
+  pub verb : Verb
+  pub base : ℕ
+  pub size : ℕ
 
--- no-map is flag 4
-unfoldable pub mark : Layout → ℕ → ℕ → List ℕ → Outcome
-mark L base size b = unless (good L b) 1 b (changeRange L Memory (Mark 4) base size b)
+abbrev pub command : Verb → ℕ → ℕ → Command
+command v base size = record { verb = v; base = base; size = size }
 
-unfoldable pub unmark : Layout → ℕ → ℕ → List ℕ → Outcome
-unmark L base size b = unless (good L b) 1 b (changeRange L Memory (Unmark 4) base size b)
+-- add, remove, mark and unmark work on the memory table, reserve and free on the taken table
+abbrev pub table : Verb → Kind
+table (Add t) = Memory
+table Remove = Memory
+table Mark = Memory
+table Unmark = Memory
+table Reserve = Taken
+table Free = Taken
 
--- in the taken table every tag is 0, 0
-unfoldable pub reserve : Layout → ℕ → ℕ → List ℕ → Outcome
-reserve L base size b = unless (good L b) 1 b (changeRange L Taken (Fill (tag 0 0)) base size b)
+-- what it makes of each address of its range: no-map is flag 4, and in the taken table every tag is 0, 0
+abbrev pub changeOf : Verb → Change
+changeOf (Add t) = Change.Fill t
+changeOf Remove = Change.Clear
+changeOf Mark = Change.Mark 4
+changeOf Unmark = Change.Unmark 4
+changeOf Reserve = Change.Fill (tag 0 0)
+changeOf Free = Change.Clear
 
-unfoldable pub free : Layout → ℕ → ℕ → List ℕ → Outcome
-free L base size b = unless (good L b) 1 b (changeRange L Taken Clear base size b)
+-- add's tag is legal; the others name none
+abbrev pub legalVerb : Verb → Bool
+legalVerb (Add t) = legalTag Memory t
+legalVerb Remove = true
+legalVerb Mark = true
+legalVerb Unmark = true
+legalVerb Reserve = true
+legalVerb Free = true
+
+unfoldable pub commandOutcome : Layout → Command → List ℕ → Outcome
+commandOutcome L c b =
+    unless (good L b) 1 b
+    (unless (legalVerb (c .verb)) 2 b (changeRange L (table (c .verb)) (changeOf (c .verb)) (c .base) (c .size) b))
+
+-- ---- trim
 
 -- trim needs no more room than there was, so it never answers 6
 unfoldable pub trim : Layout → ℕ → List ℕ → Outcome

@@ -18,11 +18,8 @@ ghost use mathlib.Core.Path.{_≡_};
 ghost use mathlib.Core.Bool.{true};
 ghost use lib.ListN.{length};
 ghost use Rattle.address.specs.Numbers.{powerOfTwo};
-ghost use Rattle.regions.specs.declared.Kind.the-variants.{Memory};
-ghost use Rattle.regions.specs.Lists.{legalTag};
 ghost use Rattle.block.specs.Block.{current, good};
-ghost use Rattle.tables.specs.Commands.{outcome, unless, changeRange, fresh as freshOutcome, set as setOutcome, add as addOutcome, remove as removeOutcome, mark as markOutcome, unmark as unmarkOutcome, reserve as reserveOutcome, free as freeOutcome, trim as trimOutcome};
-ghost use Rattle.tables.specs.Steps.{Known};
+ghost use Rattle.tables.specs.Commands.{outcome, fresh as freshOutcome, set as setOutcome, trim as trimOutcome, table as tableOf, changeOf, legalVerb, command, commandOutcome};
 
 // Writes a fresh block over any bytes of the right length.
 pub fn fresh(block: &mut [u8]) -> u32
@@ -72,72 +69,80 @@ pub fn set(block: &mut [u8], limit: Address, direction: u32) -> u32
     0
 }
 
-// A change over a range of a table, on any block.
-fn on_range(block: &mut [u8], kind: Kind, change: Change, base: Address, size: Size) -> u32
-    requires { ⌜ Known kind change ⌝ }
-    ensures { λ r. ⌜ outcome r (now (block .exit)) ≡ unless (good current (now (block .entry))) 1 (now (block .entry)) (changeRange current kind change (base .0) (size .0) (now (block .entry))) ⌝ }
+// The commands on a range; add has its tag.
+pub enum Verb {
+    Add(Tag),
+    Remove,
+    Mark,
+    Unmark,
+    Reserve,
+    Free,
+}
+
+impl Verb {
+    // The table that it works on.
+    fn table(self) -> Kind
+        ensures { λ r. ⌜ r ≡ tableOf self ⌝ }
+    {
+        match self {
+            Verb::Add(_) => Kind::Memory,
+            Verb::Remove => Kind::Memory,
+            Verb::Mark => Kind::Memory,
+            Verb::Unmark => Kind::Memory,
+            Verb::Reserve => Kind::Taken,
+            Verb::Free => Kind::Taken,
+        }
+    }
+
+    // What it makes of each address of its range.
+    fn change(self) -> Change
+        ensures { λ r. ⌜ r ≡ changeOf self ⌝ }
+    {
+        let plain = Tag { flags: 0, node: 0 };
+        match self {
+            Verb::Add(tag) => Change::Fill(tag),
+            Verb::Remove => Change::Clear,
+            Verb::Mark => Change::Mark(4),
+            Verb::Unmark => Change::Unmark(4),
+            Verb::Reserve => Change::Fill(plain),
+            Verb::Free => Change::Clear,
+        }
+    }
+
+    // Whether its tag is legal; only add has one.
+    fn legal(self) -> bool
+        ensures { λ r. ⌜ r ≡ legalVerb self ⌝ }
+    {
+        match self {
+            Verb::Add(tag) => tag.legal(Kind::Memory),
+            Verb::Remove => true,
+            Verb::Mark => true,
+            Verb::Unmark => true,
+            Verb::Reserve => true,
+            Verb::Free => true,
+        }
+    }
+}
+
+// What a command answers on a good block, with a legal tag: nothing is checked again.
+pub fn on_good(block: &mut [u8], verb: Verb, base: Address, size: Size) -> u32
+    requires { ⌜ (good current (now block) ≡ true) × (legalVerb verb ≡ true) ⌝ }
+    ensures { λ r. ⌜ outcome r (now (block .exit)) ≡ commandOutcome current (command verb (base .0) (size .0)) (now (block .entry)) ⌝ }
+{
+    change_range(block, verb.table(), verb.change(), base, size)
+}
+
+// A command on a range.
+pub fn on_range(block: &mut [u8], verb: Verb, base: Address, size: Size) -> u32
+    ensures { λ r. ⌜ outcome r (now (block .exit)) ≡ commandOutcome current (command verb (base .0) (size .0)) (now (block .entry)) ⌝ }
 {
     if !block_good(block, current_layout()) {
         return 1;
     }
-    change_range(block, kind, change, base, size)
-}
-
-// What add answers on a good block, with a legal tag: nothing is checked again.
-pub fn add_on_good(block: &mut [u8], base: Address, size: Size, tag: Tag) -> u32
-    requires { ⌜ (good current (now block) ≡ true) × (legalTag Memory tag ≡ true) ⌝ }
-    ensures { λ r. ⌜ outcome r (now (block .exit)) ≡ addOutcome current (base .0) (size .0) (tag .flags) (tag .node) (now (block .entry)) ⌝ }
-{
-    change_range(block, Kind::Memory, Change::Fill(tag), base, size)
-}
-
-// Gives the tag to each address of the range not yet in memory.
-pub fn add(block: &mut [u8], base: Address, size: Size, tag: Tag) -> u32
-    ensures { λ r. ⌜ outcome r (now (block .exit)) ≡ addOutcome current (base .0) (size .0) (tag .flags) (tag .node) (now (block .entry)) ⌝ }
-{
-    if !block_good(block, current_layout()) {
-        return 1;
-    }
-    if !tag.legal(Kind::Memory) {
+    if !verb.legal() {
         return 2;
     }
-    add_on_good(block, base, size, tag)
-}
-
-// Takes addresses out of memory.
-pub fn remove(block: &mut [u8], base: Address, size: Size) -> u32
-    ensures { λ r. ⌜ outcome r (now (block .exit)) ≡ removeOutcome current (base .0) (size .0) (now (block .entry)) ⌝ }
-{
-    on_range(block, Kind::Memory, Change::Clear, base, size)
-}
-
-// Sets no-map on the range's addresses that are in memory.
-pub fn mark(block: &mut [u8], base: Address, size: Size) -> u32
-    ensures { λ r. ⌜ outcome r (now (block .exit)) ≡ markOutcome current (base .0) (size .0) (now (block .entry)) ⌝ }
-{
-    on_range(block, Kind::Memory, Change::Mark(4), base, size)
-}
-
-// Clears no-map on them.
-pub fn unmark(block: &mut [u8], base: Address, size: Size) -> u32
-    ensures { λ r. ⌜ outcome r (now (block .exit)) ≡ unmarkOutcome current (base .0) (size .0) (now (block .entry)) ⌝ }
-{
-    on_range(block, Kind::Memory, Change::Unmark(4), base, size)
-}
-
-// Puts addresses into the taken set.
-pub fn reserve(block: &mut [u8], base: Address, size: Size) -> u32
-    ensures { λ r. ⌜ outcome r (now (block .exit)) ≡ reserveOutcome current (base .0) (size .0) (now (block .entry)) ⌝ }
-{
-    let plain = Tag { flags: 0, node: 0 };
-    on_range(block, Kind::Taken, Change::Fill(plain), base, size)
-}
-
-// Takes addresses out of it.
-pub fn free(block: &mut [u8], base: Address, size: Size) -> u32
-    ensures { λ r. ⌜ outcome r (now (block .exit)) ≡ freeOutcome current (base .0) (size .0) (now (block .entry)) ⌝ }
-{
-    on_range(block, Kind::Taken, Change::Clear, base, size)
+    on_good(block, verb, base, size)
 }
 
 // What trim does to a good block, by a power of two.

@@ -2,6 +2,7 @@
 use address::Address;
 use address::CheckedAddress;
 use address::Size;
+use block::Header;
 use block::current_layout;
 use block::get_header;
 use block::put_header;
@@ -16,6 +17,7 @@ use regions::Tag;
 ghost use mathlib.Core.Path.{_≡_};
 ghost use mathlib.Core.Bool.{true};
 ghost use Prim.Native.Nat.{_+_, _*_, _<_, _≤_};
+ghost use lib.ListN.{length};
 ghost use Rattle.regions.specs.declared.Kind.the-variants.{Memory};
 ghost use Rattle.regions.specs.declared.Change.the-variants.{Fill};
 ghost use Rattle.regions.specs.Meaning.{top};
@@ -23,7 +25,7 @@ ghost use Rattle.address.specs.Numbers.{powerOfTwo};
 ghost use Rattle.regions.specs.Trim.{trimmedList};
 ghost use Rattle.regions.specs.Changes.{cut};
 ghost use Rattle.change.specs.Steps.{Vacant};
-ghost use Rattle.tables.specs.Steps.{Known};
+ghost use Rattle.tables.specs.Steps.{Known, storeChanged};
 ghost use Rattle.block.specs.Block.{current, offset, capacity, listOf, withList, blockBytes, contents, good};
 ghost use Rattle.tables.specs.Commands.{outcome, changeRange};
 
@@ -54,6 +56,18 @@ pub fn cut_end(base: Address, size: Size) -> Address
     end
 }
 
+// Writes a changed table's tally into the header, or answers 6.
+fn store_changed(block: &mut [u8], own: Header, kind: Kind, changed: Changed) -> u32
+    requires { ⌜ 80 ≤ length (now block) ⌝ }
+    ensures { λ r. ⌜ outcome r (now (block .exit)) ≡ storeChanged own kind changed (now (block .entry)) ⌝ }
+{
+    let Changed::To(tally) = changed else {
+        return 6;
+    };
+    put_header(block, current_layout(), own.with_tally(kind, tally));
+    0
+}
+
 // Changes a range of a table, or answers 6.
 pub fn change_range(block: &mut [u8], kind: Kind, change: Change, base: Address, size: Size) -> u32
     requires { ⌜ (good current (now block) ≡ true) × Known kind change ⌝ }
@@ -69,11 +83,8 @@ pub fn change_range(block: &mut [u8], kind: Kind, change: Change, base: Address,
         lo: base,
         hi: cut_end(base, size),
     };
-    let Changed::To(new) = change_table(&mut block[start..end], tally, edit) else {
-        return 6;
-    };
-    put_header(block, current_layout(), own.with_tally(kind, new));
-    0
+    let changed = change_table(&mut block[start..end], tally, edit);
+    store_changed(block, own, kind, changed)
 }
 
 // Puts a range of which a table has no address into it, with a tag, or answers 6.
@@ -87,11 +98,8 @@ pub fn fill_range(block: &mut [u8], kind: Kind, tag: Tag, base: Address, size: S
     let own = get_header(block);
     let tally = own.tally(kind);
     let hi = cut_end(base, size);
-    let Changed::To(new) = fill_table(&mut block[start..end], tally, base, hi, tag) else {
-        return 6;
-    };
-    put_header(block, current_layout(), own.with_tally(kind, new));
-    0
+    let changed = fill_table(&mut block[start..end], tally, base, hi, tag);
+    store_changed(block, own, kind, changed)
 }
 
 // Trims the memory table of a good block by an alignment.

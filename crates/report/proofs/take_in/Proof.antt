@@ -1,5 +1,5 @@
 -- `report::take_in` meets its contract.
-use Rattle.report.proofs.Good.{taken-good}
+use Rattle.memblock.proofs.Refusals.{left-good, fresh-left-good}
 use borrow.Author.Needs.{needs}
 use Rattle.report.proofs.take_in.Statement.{statement}
 use Rattle.report.proofs.take_in.Tie as tie
@@ -32,13 +32,13 @@ slice-aggregate-say-table : tie.Need-slice-aggregate-say-table
 slice-aggregate-say-table c = search needs
 
 say-table-requires : tie.Need-say-table-requires
-say-table-requires c κs = search (taken-good, needs)
+say-table-requires c κs = search (left-good, fresh-left-good, needs)
 
 slice-aggregate-say-table-2 : tie.Need-slice-aggregate-say-table-2
 slice-aggregate-say-table-2 c = search needs
 
 say-table-requires-2 : tie.Need-say-table-requires-2
-say-table-requires-2 c κs = search (taken-good, needs)
+say-table-requires-2 c κs = search (left-good, fresh-left-good, needs)
 
 returns : tie.Need-returns
 returns c = search needs

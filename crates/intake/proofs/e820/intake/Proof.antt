@@ -1,5 +1,5 @@
 -- `intake::e820::intake` meets its contract.
-use Rattle.intake.proofs.Whole.{not-good, ragged, too-long, taken-in, block-length, is-good}
+use Rattle.intake.proofs.Whole.{not-good, ragged, too-long, taken-in, is-good}
 use Rattle.block.proofs.Layouts.{small-layout}
 use borrow.Author.Needs.{needs}
 use Rattle.intake.proofs.e820.intake.Statement.{statement}
@@ -30,7 +30,7 @@ returns-3 : tie.Need-returns-3
 returns-3 c = search (too-long, needs)
 
 take-wholly-requires : tie.Need-take-wholly-requires
-take-wholly-requires c κs = (search (block-length, needs), search (is-good, needs))
+take-wholly-requires c κs = search (is-good, needs)
 
 same-length-4 : tie.Need-same-length-4
 same-length-4 c = search needs

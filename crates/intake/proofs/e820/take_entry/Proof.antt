@@ -10,8 +10,8 @@ becomes-requires c κs = search needs
 enum-told : tie.Need-enum-told
 enum-told c = search needs
 
-add-on-good-requires : tie.Need-add-on-good-requires
-add-on-good-requires c κs = (search needs, plain-legal)
+on-good-requires : tie.Need-on-good-requires
+on-good-requires c κs = (search needs, plain-legal)
 
 enum-told-2 : tie.Need-enum-told-2
 enum-told-2 c = search needs
@@ -28,4 +28,4 @@ returns-2 c = search (entry-passed, needs)
 pub take-entry-spec : {M : Type 1} → statement M
 take-entry-spec =
     tie.close
-    (tie.spec becomes-requires enum-told add-on-good-requires enum-told-2 same-length returns returns-2)
+    (tie.spec becomes-requires enum-told on-good-requires enum-told-2 same-length returns returns-2)

@@ -8,7 +8,7 @@ use Rattle.block.specs.Block.{current, good}
 use Rattle.intake.specs.E820.{readEntries, entrySteps}
 use Rattle.intake.specs.Turns.{inTurn}
 use Rattle.intake.proofs.Turns.{Rest, entries-start, entries-refused, entries-next, entries-done}
-use Rattle.intake.proofs.Good.{entry-good}
+use Rattle.intake.proofs.Good.{turn-good}
 use borrow.Author.Needs.{needs}
 use Rattle.intake.proofs.e820.take_in_turn.Statement.{statement}
 use Rattle.intake.proofs.e820.take_in_turn.Tie as tie
@@ -44,7 +44,7 @@ loop-less : tie.Need-loop-less Inv-loop μ-loop
 loop-less c = search needs
 
 loop-again : tie.Need-loop-again Inv-loop μ-loop
-loop-again c = (search needs, (search needs, (search (entry-good, needs), search (entries-next, needs))))
+loop-again c = (search needs, (search needs, (search (turn-good, needs), search (entries-next, needs))))
 
 trim-on-good-requires : tie.Need-trim-on-good-requires Inv-loop μ-loop
 unfolding powerBelow

@@ -1,19 +1,13 @@
 -- `tables::range::fill_range` meets its contract.
-use mathlib.Core.Path.{_≡_}
 use native.Mathlib.Omega.{arith}
 use Rattle.regions.proofs.Numbers.{bytes-all}
 use Rattle.block.specs.Block.{current}
-use Rattle.change.specs.declared.inplace.Changed.the-variants.{To, NoRoom}
 use Rattle.block.proofs.Blocks.{good-length}
-use Rattle.block.proofs.Layouts.{small-layout}
 use Rattle.tables.proofs.Storing.{span-le}
-use Rattle.tables.proofs.Ranging.{range-whole, range-vacant, range-full, range-done}
+use Rattle.tables.proofs.Ranging.{range-whole, range-vacant, range-stored}
 use borrow.Author.Needs.{needs}
 use Rattle.tables.proofs.range.fill_range.Statement.{statement}
 use Rattle.tables.proofs.range.fill_range.Tie as tie
-
-table-to : (c : tie.After-known-told) → c .before .before .before .before .before .fill-table .result ≡ To (c .before .new .given .0 .0)
-table-to c = search needs
 
 table-span-requires : tie.Need-table-span-requires
 table-span-requires c κs = search needs
@@ -50,51 +44,19 @@ fill-table-requires c κs =
     let p = s .pre .1 in
     (range-whole _ (s .pre .0) (s .args .kind) _ _ (y .0) (y .1) _ h _ t bs, (omega (arith, u), (omega (arith, u), range-vacant _ (s .pre .0) (s .args .kind) _ _ (y .0) (y .1) _ h _ t (s .args .base) _ _ u (p .1 .0) (p .1 .1))))
 
-enum-known-new : tie.Need-enum-known-new
-enum-known-new c = search needs
-
-enum-told : tie.Need-enum-told
-enum-told c = search needs
+store-changed-requires : tie.Need-store-changed-requires
+store-changed-requires c κs =
+    omega (arith, good-length current _ (c .before .before .before .before .before .before .before .before .before .before .before .pre .0), c .before .before .before .fill-table .kept)
 
 same-length : tie.Need-same-length
 same-length c = search needs
 
 returns : tie.Need-returns
 returns c =
-    let s = c .before .before .before .before .before .before .before .before .before .before .before .before in
-    let y = c .before .before .before .before .before .before .before .before .before .before .table-span .ensures in
-    let h = c .before .before .before .before .before .before .before .before .get-header .ensures in
-    let t = c .before .before .before .before .before .before .before .tally .ensures in
-    let u = c .before .before .before .before .before .before .cut-end .ensures in
-    let x = c .before .before .before .before .fill-table in
-    let f : x .result ≡ NoRoom = search needs in
-    range-full _ (s .pre .0) (s .args .kind) _ _ (y .0) (y .1) _ h _ t _ (s .args .base) _ _ u _ _ (x .ensures) f
-
-current-layout-requires : tie.Need-current-layout-requires
-current-layout-requires c κs = search needs
-
-with-tally-requires : tie.Need-with-tally-requires
-with-tally-requires c κs = search needs
-
-put-header-requires : tie.Need-put-header-requires
-put-header-requires c κs =
-    let s = c .before .before .before .before .before .before .before .before .before .before .before .before .before .before .before .before in
-    (omega (arith, good-length current _ (s .pre .0), c .before .before .before .before .before .before .before .before .fill-table .kept), small-layout _ (c .before .current-layout .ensures))
-
-same-length-2 : tie.Need-same-length-2
-same-length-2 c = search needs
-
-returns-2 : tie.Need-returns-2
-returns-2 c =
-    let s = c .before .before .before .before .before .before .before .before .before .before .before .before .before .before .before .before .before .before .before in
-    let y = c .before .before .before .before .before .before .before .before .before .before .before .before .before .before .before .before .before .table-span .ensures in
-    let h = c .before .before .before .before .before .before .before .before .before .before .before .before .before .before .before .get-header .ensures in
-    let t = c .before .before .before .before .before .before .before .before .before .before .before .before .before .before .tally .ensures in
-    let u = c .before .before .before .before .before .before .before .before .before .before .before .before .before .cut-end .ensures in
-    let bs = bytes-all _ (c .before .before .before .before .before .before .before .before .before .before .before .before .before .before .before .before .before .before .slice-known .given) in
-    let x = c .before .before .before .before .before .before .before .before .before .before .before .fill-table in
-    let f = table-to (c .before .before .before .before .before .before) in
-    range-done _ (s .pre .0) (s .args .kind) _ _ (y .0) (y .1) _ h _ t _ (s .args .base) _ _ u _ _ (x .ensures) _ f bs _ (c .before .before .before .before .current-layout .ensures) _ (c .before .before .before .with-tally .ensures) _ (c .before .before .put-header .ensures)
+    let s = c .before .before .before .before .before .before .before .before .before .before .before .before .before .before in
+    let y = c .before .before .before .before .before .before .before .before .before .before .before .before .table-span .ensures in
+    let bs = bytes-all _ (c .before .before .before .before .before .before .before .before .before .before .before .before .before .slice-known .given) in
+    range-stored _ (s .pre .0) (s .args .kind) _ _ (y .0) (y .1) _ (c .before .before .before .before .before .before .before .before .before .before .get-header .ensures) _ (c .before .before .before .before .before .before .before .before .before .tally .ensures) _ (s .args .base) _ _ (c .before .before .before .before .before .before .before .before .cut-end .ensures) _ _ (c .before .before .before .before .before .before .fill-table .ensures) bs _ (c .before .before .store-changed .ensures)
 
 pub fill-range-spec : {M : Type 1} → statement M
 fill-range-spec =
@@ -108,12 +70,6 @@ fill-range-spec =
     part-fill-table-start
     part-fill-table-end
     fill-table-requires
-    enum-known-new
-    enum-told
+    store-changed-requires
     same-length
-    returns
-    current-layout-requires
-    with-tally-requires
-    put-header-requires
-    same-length-2
-    returns-2)
+    returns)

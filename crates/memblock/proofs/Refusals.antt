@@ -1,0 +1,231 @@
+-- Whatever the call and the bytes: a refusal leaves all as it was and a slip zero, and a call that is done leaves a good block. Assumes nothing.
+use Prim.Native.Nat.{ℕ, _+_}
+use mathlib.Core.Path.{_≡_, refl, ap, _∙_}
+use mathlib.Core.Bool.{Bool, true, false, cond}
+use mathlib.Core.List.{List, []}
+use mathlib.Core.Option.{Option, none, some}
+use native.Mathlib.Omega.{arith}
+use lib.Dec.{leb, eqb}
+use lib.ListN.{length, replicate}
+use borrow.Author.Tests.{eq-eqb, eqb-true, eqb-false}
+use Rattle.address.specs.Numbers.{powerOfTwo}
+use Rattle.regions.specs.declared.Region.{Region}
+use Rattle.regions.specs.Changes.{changed}
+use Rattle.regions.specs.declared.Kind.the-variants.{Taken}
+use Rattle.regions.specs.declared.Change.the-variants.{Fill}
+use Rattle.block.specs.Block.{current, capacity, blockLength, listOf, contents, good}
+use Rattle.tables.specs.declared.commands.Verb.the-variants.{Reserve}
+use Rattle.tables.specs.Commands.{Outcome, unless, done, store, changeRange, tag, Command, command, table, changeOf, legalVerb, commandOutcome, fresh, set, trim}
+use Rattle.tables.proofs.Good.{command-good, trim-good, set-good, fresh-good}
+use Rattle.intake.specs.Turns.{inTurn, wholly}
+use Rattle.intake.specs.E820.{entries, readable, entrySteps, intakeE820}
+use Rattle.intake.proofs.Good.{intake-good}
+use Rattle.runs.specs.declared.Query.{Query}
+use Rattle.search.specs.Search.{found, lowestFree}
+use Rattle.search.specs.Answers.{Answer, answer, refuse, unless as unlessAnswer, slipOf, withSlip, nodeKnown, refusal, checkNumber, find, findAnswer, allocate, allocateAnswer, reserved, nextFree, nextFreeAnswer}
+use Rattle.memblock.specs.Calls.{Call, toFresh, toSet, toCommand, toTrim, toFind, toNextFree, toAllocate, toIntake, plain, answerOf}
+use Rattle.memblock.specs.Refusals.{slipLent, RefusalSentence, DoneSentence}
+
+-- ---- calls without a slip
+
+-- a refusal leaves the block
+abbrev Keeps : List ℕ → Outcome → Type 0
+Keeps b o = (o .number ≡ 0 → ⊥) → o .block ≡ b
+
+unless-keeps : (t : Bool) (n : ℕ) (b : List ℕ) (o : Outcome) → Keeps b o → Keeps b (unless t n b o)
+unless-keeps true n b o h = h
+unless-keeps false n b o h = λ d. refl
+
+-- so do two and three refusals in front of what is done
+module _ (b x : List ℕ) where
+  one-keeps : (t : Bool) (n : ℕ) → Keeps b (unless t n b (done x))
+  one-keeps t n = unless-keeps t n b (done x) (λ d. absurd (d refl))
+
+  two-keep : (t u : Bool) (n m : ℕ) → Keeps b (unless t n b (unless u m b (done x)))
+  two-keep t u n m = unless-keeps t n b (unless u m b (done x)) (one-keeps u m)
+
+  three-keep : (t u v : Bool) (n m k : ℕ) → Keeps b (unless t n b (unless u m b (unless v k b (done x))))
+  three-keep t u v n m k = unless-keeps t n b (unless u m b (unless v k b (done x))) (two-keep u v m k)
+
+-- what is done on a block that must be good was done on a good one
+was-good : (t : Bool) (b : List ℕ) (o : Outcome) → unless t 1 b o .number ≡ 0 → t ≡ true
+was-good true b o h = refl
+was-good false b o h = absurd (omega (arith, h))
+
+-- what is so of an outcome on b
+record FairOutcome (b : List ℕ) (o : Outcome) : Type 0 where
+  keeps : Keeps b o
+  isGood : o .number ≡ 0 → good current (o .block) ≡ true
+
+module _ (b : List ℕ) where
+  fresh-fair : FairOutcome b (fresh current b)
+  unfolding fresh
+  fresh-fair = record { keeps = one-keeps b _ (eqb (length b) (blockLength current)) 1; isGood = fresh-good b }
+
+  set-fair : (limit direction : ℕ) → FairOutcome b (set current limit direction b)
+  unfolding set
+  set-fair limit direction =
+      record {
+        keeps = two-keep b _ (good current b) (leb direction 1) 1 7;
+        isGood = λ h. set-good b (was-good (good current b) b _ h) limit direction;
+      }
+
+  -- the finished list of the table that a command works on
+  abbrev finished : Command → List Region
+  finished c = changed (changeOf (c .verb)) (c .base) (c .size) (listOf (contents current b) (table (c .verb)))
+
+  command-fair : (c : Command) → FairOutcome b (commandOutcome current c b)
+  unfolding commandOutcome store
+  command-fair c =
+      record {
+        keeps = three-keep b _ (good current b) (legalVerb (c .verb)) (leb (length (finished c)) (capacity current (table (c .verb)))) 1 2 6;
+        isGood = λ h. command-good b (was-good (good current b) b _ h) c;
+      }
+
+  trim-fair : (align : ℕ) → FairOutcome b (trim current align b)
+  unfolding trim
+  trim-fair align =
+      record {
+        keeps = two-keep b _ (good current b) (powerOfTwo align) 1 3;
+        isGood = λ h. trim-good b (was-good (good current b) b _ h) align;
+      }
+
+  intake-fair : (report : List ℕ) → FairOutcome b (intakeE820 current report b)
+  unfolding intakeE820 wholly
+  intake-fair report =
+      record {
+        keeps = unless-keeps (good current b) 1 b _ (unless-keeps (readable report) 10 b _ (whole (inTurn (entrySteps current (entries report)) b)));
+        isGood = λ h. intake-good report b (was-good (good current b) b _ h);
+      }
+    where
+      whole : (o : Outcome) → Keeps b (unless (eqb (o .number) 0) (o .number) b o)
+      whole o = go (eqb (o .number) 0) refl
+        where
+          go : (t : Bool) → eqb (o .number) 0 ≡ t → Keeps b (unless t (o .number) b o)
+          go true e = λ d. absurd (d (eqb-true (o .number) 0 e))
+          go false e = λ d. refl
+
+-- ---- calls with a slip
+
+-- what is so of an answer on b with a slip
+record Fair (b slip : List ℕ) (x : Answer) : Type 0 where
+  block : (x .number ≡ 0 → ⊥) → x .block ≡ b
+  zero : (x .number ≡ 0 → ⊥) → length slip ≡ 16 → x .slip ≡ replicate 16 0
+  lent : (x .number ≡ 0 → ⊥) → (length slip ≡ 16 → ⊥) → x .slip ≡ slip
+  isGood : x .number ≡ 0 → good current (x .block) ≡ true
+
+plain-fair : (b : List ℕ) (o : Outcome) → FairOutcome b o → Fair b [] (plain o)
+plain-fair b o f = record { block = f .keeps; zero = λ d l. absurd (omega (arith, l)); lent = λ d l. refl; isGood = f .isGood }
+
+module _ (b slip : List ℕ) where
+  with-slip-fair : (x : Answer) → (length slip ≡ 16 → Fair b slip x) → Fair b slip (withSlip b slip x)
+  with-slip-fair x h = go (eqb (length slip) 16) refl
+    where
+      go : (t : Bool) → eqb (length slip) 16 ≡ t → Fair b slip (cond t x (answer 8 b slip))
+      go true e = h (eqb-true (length slip) 16 e)
+      go false e =
+          record {
+            block = λ d. refl;
+            zero = λ d l. absurd (eqb-false (length slip) 16 e l);
+            lent = λ d l. refl;
+            isGood = λ z. absurd (omega (arith, z));
+          }
+
+  module _ (l : length slip ≡ 16) where
+    refuse-fair : (n : ℕ) → (n ≡ 0 → ⊥) → Fair b slip (refuse n b)
+    refuse-fair n d = record { block = λ e. refl; zero = λ e m. refl; lent = λ e m. absurd (m l); isGood = λ z. absurd (d z) }
+
+    unless-fair : (t : Bool) (n : ℕ) (x : Answer) → (t ≡ false → n ≡ 0 → ⊥) → (t ≡ true → Fair b slip x) → Fair b slip (unlessAnswer t n b x)
+    unless-fair true n x d h = h refl
+    unless-fair false n x d h = refuse-fair n (d refl)
+
+    done-fair : (c s : List ℕ) → good current c ≡ true → Fair b slip (answer 0 c s)
+    done-fair c s g = record { block = λ d. absurd (d refl); zero = λ d m. absurd (d refl); lent = λ d m. absurd (d refl); isGood = λ z. g }
+
+-- the checks let only a good block pass
+check-good : (q : Query) (b : List ℕ) → checkNumber current q b ≡ 0 → good current b ≡ true
+check-good q b e = go (good current b) refl e
+  where
+    go : (t : Bool) → good current b ≡ t → cond t (refusal q) 1 ≡ 0 → t ≡ true
+    go true g h = refl
+    go false g h = absurd (omega (arith, h))
+
+module _ (b slip : List ℕ) where
+  -- what find and allocate answer past their checks
+  asking-fair : (q : Query) (x : Answer) → (length slip ≡ 16 → good current b ≡ true → Fair b slip x)
+      → Fair b slip (withSlip b slip (unlessAnswer (eqb (checkNumber current q b) 0) (checkNumber current q b) b x))
+  asking-fair q x h =
+      with-slip-fair b slip _
+      (λ l. unless-fair b slip l (eqb (checkNumber current q b) 0) (checkNumber current q b) x (eqb-false (checkNumber current q b) 0)
+      (λ e. h l (check-good q b (eqb-true (checkNumber current q b) 0 e))))
+
+  find-fair : (q : Query) → Fair b slip (find current q b slip)
+  unfolding find
+  find-fair q = asking-fair q _ (λ l g. go l g (found (contents current b) q))
+    where
+      go : length slip ≡ 16 → good current b ≡ true → (o : Option ℕ) → Fair b slip (findAnswer b (q .size .0) o)
+      go l g none = refuse-fair b slip l 5 (λ z. omega (arith, z))
+      go l g (some a) = done-fair b slip l b _ g
+
+  allocate-fair : (q : Query) → Fair b slip (allocate current q b slip)
+  unfolding allocate commandOutcome
+  allocate-fair q = asking-fair q _ (λ l g. go l g (found (contents current b) q))
+    where
+      reserving : length slip ≡ 16 → (a : ℕ) (o : Outcome) → good current (o .block) ≡ true → Fair b slip (reserved b a (q .size .0) o)
+      reserving l a o h = by (eqb (o .number) 0) refl
+        where
+          by : (t : Bool) → eqb (o .number) 0 ≡ t → Fair b slip (cond t (answer 0 (o .block) (slipOf a (a + q .size .0))) (refuse (o .number) b))
+          by true e = done-fair b slip l (o .block) _ h
+          by false e = refuse-fair b slip l (o .number) (eqb-false (o .number) 0 e)
+
+      go : length slip ≡ 16 → good current b ≡ true → (o : Option ℕ) → Fair b slip (allocateAnswer current b (q .size .0) o)
+      go l g none = refuse-fair b slip l 5 (λ z. omega (arith, z))
+      go l g (some a) =
+          let o : Outcome = changeRange current Taken (Fill (tag 0 0)) a (q .size .0) b in
+          let h : good current (o .block) ≡ true = rw g at (command-good b g (command Reserve a (q .size .0))) in
+          reserving l a o h
+
+  next-free-fair : (from node : ℕ) → Fair b slip (nextFree current from node b slip)
+  unfolding nextFree
+  next-free-fair from node =
+      with-slip-fair b slip _
+      (λ l. unless-fair b slip l (good current b) 1 _ (λ e z. omega (arith, z))
+      (λ g. unless-fair b slip l (nodeKnown node) 2 _ (λ e z. omega (arith, z)) (λ k. go l g (lowestFree (contents current b) from node))))
+    where
+      go : length slip ≡ 16 → good current b ≡ true → (o : Option ℕ) → Fair b slip (nextFreeAnswer b (contents current b) o)
+      go l g none = refuse-fair b slip l 5 (λ z. omega (arith, z))
+      go l g (some a) = done-fair b slip l b _ g
+
+-- ---- every call
+
+fair : (c : Call) (b : List ℕ) → Fair b (slipLent c) (answerOf c b)
+unfolding answerOf
+fair toFresh b = plain-fair b _ (fresh-fair b)
+fair (toSet limit direction) b = plain-fair b _ (set-fair b limit direction)
+fair (toCommand c) b = plain-fair b _ (command-fair b c)
+fair (toTrim align) b = plain-fair b _ (trim-fair b align)
+fair (toFind q slip) b = find-fair b slip q
+fair (toNextFree from node slip) b = next-free-fair b slip from node
+fair (toAllocate q slip) b = allocate-fair b slip q
+fair (toIntake report) b = plain-fair b _ (intake-fair b report)
+
+pub refusal-sentence : RefusalSentence
+refusal-sentence c b d = let f = fair c b in record { block = f .block d; zero = f .zero d; lent = f .lent d }
+
+pub done-sentence : DoneSentence
+done-sentence c b h = fair c b .isGood h
+
+-- ---- for programs that call the functions
+
+-- done or not, a call leaves a good block good
+pub left-good : (c : Call) (b : List ℕ) → good current b ≡ true → (n : ℕ) (x : List ℕ) → answer n x [] ≡ answerOf c b → good current x ≡ true
+left-good c b g n x e = ap (λ (o : Answer). good current (o .block)) e ∙ go (eqb (answerOf c b .number) 0) refl
+  where
+    go : (t : Bool) → eqb (answerOf c b .number) 0 ≡ t → good current (answerOf c b .block) ≡ true
+    go true z = done-sentence c b (eqb-true (answerOf c b .number) 0 z)
+    go false z = ap (good current) (refusal-sentence c b (eqb-false (answerOf c b .number) 0 z) .block) ∙ g
+
+-- and fresh makes one of any bytes of the right length
+pub fresh-left-good : (b : List ℕ) → length b ≡ blockLength current → (n : ℕ) (x : List ℕ) → answer n x [] ≡ answerOf toFresh b → good current x ≡ true
+unfolding answerOf fresh
+fresh-left-good b l n x e = ap (λ (o : Answer). good current (o .block)) e ∙ done-sentence toFresh b (rw (eq-eqb (length b) (blockLength current) l))

@@ -1,0 +1,59 @@
+-- What works on the memory table leaves every byte from the taken table on. Assumes nothing.
+use Prim.Native.Nat.{ℕ, _≤_}
+use mathlib.Core.Path.{_≡_, refl, sym, ap, _∙_}
+use mathlib.Core.Bool.{Bool, true, false}
+use mathlib.Core.List.{List}
+use native.Mathlib.Omega.{arith}
+use lib.Dec.{leb}
+use lib.ListN.{length, drop}
+use borrow.Author.Tests.{leb-true}
+use Rattle.address.specs.Numbers.{powerOfTwo}
+use Rattle.address.proofs.Powers.{power-some}
+use Rattle.regions.specs.declared.Kind.the-variants.{Memory, Taken}
+use Rattle.regions.specs.declared.Region.{Region}
+use Rattle.regions.specs.Changes.{changed}
+use Rattle.regions.specs.Trim.{roundEach, trimmedList}
+use Rattle.regions.proofs.Trim.{round-length, trim-rounds}
+use Rattle.regions.proofs.Good.{good-rises}
+use Rattle.block.specs.Block.{current, capacity, offset, withList, blockBytes, contents, good}
+use Rattle.block.proofs.Blocks.{behind-memory, room, lists-ok, good-contents, good-spelled}
+use Rattle.tables.specs.Commands.{store, Command, table, changeOf, legalVerb, commandOutcome, trim}
+
+module _ (b : List ℕ) (g : good current b ≡ true) where
+  memory-room : length (contents current b .memory) ≤ current .memory
+  unfolding capacity
+  memory-room = room current (contents current b) (good-contents current b g) Memory
+
+  -- another list in the memory table
+  front-only : (xs : List Region) → length xs ≤ current .memory
+      → drop (offset current Taken) (blockBytes current (withList (contents current b) Memory xs)) ≡ drop (offset current Taken) b
+  front-only xs l =
+      behind-memory current (withList (contents current b) Memory xs) l ∙ sym (behind-memory current (contents current b) memory-room)
+      ∙ ap (drop (offset current Taken)) (good-spelled current b g)
+
+  pub command-front : (c : Command) → table (c .verb) ≡ Memory → drop (offset current Taken) (commandOutcome current c b .block) ≡ drop (offset current Taken) b
+  unfolding commandOutcome store capacity
+  command-front c m = go (legalVerb (c .verb)) refl (leb (length xs) (current .memory)) refl
+    where
+      xs : List Region
+      xs = changed (changeOf (c .verb)) (c .base) (c .size) (contents current b .memory)
+
+      go : (l : Bool) → legalVerb (c .verb) ≡ l → (f : Bool) → leb (length xs) (current .memory) ≡ f
+          → drop (offset current Taken) (commandOutcome current c b .block) ≡ drop (offset current Taken) b
+      go false e f h = rw (g, e)
+      go true e false h = rw (g, e, m, h)
+      go true e true h = rw (g, e, m, h) (front-only xs (leb-true (length xs) (current .memory) h))
+
+  pub trim-front : (k : ℕ) → drop (offset current Taken) (trim current k b .block) ≡ drop (offset current Taken) b
+  unfolding trim
+  trim-front k = go (powerOfTwo k) refl
+    where
+      xs : List Region
+      xs = contents current b .memory
+
+      go : (p : Bool) → powerOfTwo k ≡ p → drop (offset current Taken) (trim current k b .block) ≡ drop (offset current Taken) b
+      go false e = rw (g, e)
+      go true e =
+          let w = good-rises Memory xs (lists-ok current (contents current b) (good-contents current b g) Memory) in
+          let r : trimmedList k xs ≡ roundEach k xs = trim-rounds k xs (power-some k e) w in
+          rw (g, e) (front-only (trimmedList k xs) (omega (arith, ap (length {A = Region}) r, round-length k xs, memory-room)))

@@ -1,0 +1,98 @@
+-- Every command leaves a good block: those on a range, trim and set one that was good, fresh any bytes of the right length. Assumes nothing.
+use Prim.Native.Nat.{ℕ, _%_, _^_, _<_}
+use mathlib.Core.Path.{_≡_, refl}
+use mathlib.Core.Bool.{Bool, true, false, cond}
+use mathlib.Core.List.{List}
+use mathlib.Core.Logic.{_⊎_, inl, inr}
+use native.Mathlib.Nat.{mod-lt}
+use native.Mathlib.Omega.{arith}
+use lib.Dec.{leb, eqb, lit<}
+use lib.ListN.{length}
+use Rattle.address.specs.Numbers.{powerOfTwo}
+use Rattle.address.proofs.Powers.{power-some}
+use Rattle.address.proofs.Tests.{and}
+use Rattle.regions.specs.declared.Kind.the-variants.{Memory, Taken}
+use Rattle.regions.specs.declared.Region.{Region}
+use Rattle.regions.specs.Changes.{changed}
+use Rattle.regions.proofs.Numbers.{bytes-mod}
+use Rattle.block.specs.declared.Layout.{Layout}
+use Rattle.block.specs.Block.{current, capacity, blockLength, settings, settingsBytes, freshContents, listOf, headerBytes, blockBytes, contents, goodContents, good}
+use Rattle.block.proofs.Blocks.{tables-ok, good-contents}
+use Rattle.block.proofs.Reading.{Spellable, good-spelled-block}
+use Rattle.block.proofs.Layouts.{small-current}
+use Rattle.block.proofs.Kept.{change-kept, trim-kept}
+use Rattle.tables.specs.Commands.{outcome, done, store, Command, table, changeOf, legalVerb, commandOutcome, fresh, set, trim}
+use Rattle.tables.proofs.Verbs.{verb-keeps}
+use Rattle.tables.proofs.Printed.{fresh-spellable}
+
+-- ---- the commands on a range, and trim
+
+module _ (b : List ℕ) (g : good current b ≡ true) where
+  module _ (c : Command) where
+    -- the finished list of the table that the command works on
+    finished : List Region
+    finished = changed (changeOf (c .verb)) (c .base) (c .size) (listOf (contents current b) (table (c .verb)))
+
+    pub command-good : good current (commandOutcome current c b .block) ≡ true
+    unfolding commandOutcome store finished
+    command-good = go (legalVerb (c .verb)) refl (leb (length finished) (capacity current (table (c .verb)))) refl
+      where
+        go : (l : Bool) → legalVerb (c .verb) ≡ l → (m : Bool) → leb (length finished) (capacity current (table (c .verb))) ≡ m
+            → good current (commandOutcome current c b .block) ≡ true
+        go false e m f = rw (g, e) g
+        go true e false f = rw (g, e, f) g
+        go true e true f =
+            rw (g, e, f) (change-kept current small-current b g (table (c .verb)) (changeOf (c .verb)) (c .base) (c .size) (verb-keeps (c .verb) e) f .isGood)
+
+    -- with a legal tag it is done or the table is full
+    pub command-number : legalVerb (c .verb) ≡ true → (commandOutcome current c b .number ≡ 0) ⊎ (commandOutcome current c b .number ≡ 6)
+    unfolding commandOutcome store finished
+    command-number e = go (leb (length finished) (capacity current (table (c .verb)))) refl
+      where
+        go : (m : Bool) → leb (length finished) (capacity current (table (c .verb))) ≡ m
+            → (commandOutcome current c b .number ≡ 0) ⊎ (commandOutcome current c b .number ≡ 6)
+        go true f = inl (rw (g, e, f))
+        go false f = inr (rw (g, e, f))
+
+  pub trim-good : (k : ℕ) → good current (trim current k b .block) ≡ true
+  unfolding trim
+  trim-good k = go (powerOfTwo k) refl
+    where
+      go : (p : Bool) → powerOfTwo k ≡ p → good current (trim current k b .block) ≡ true
+      go false e = rw (g, e) g
+      go true e = rw (g, e) (trim-kept current small-current b g k (power-some k e) .isGood)
+
+-- ---- set and fresh
+
+-- of a limit eight bytes are spelled
+limit-spelled : (L : Layout) (m n : List Region) (limit direction : ℕ)
+    → blockBytes L (record { memory = m; taken = n; settings = settings (limit % 256 ^ 8) direction })
+    ≡ blockBytes L (record { memory = m; taken = n; settings = settings limit direction })
+unfolding blockBytes headerBytes settingsBytes
+limit-spelled L m n limit direction = rw (bytes-mod 8 limit)
+
+pub set-good : (b : List ℕ) → good current b ≡ true → (limit direction : ℕ) → good current (set current limit direction b .block) ≡ true
+unfolding set goodContents
+set-good b g limit direction = go (leb direction 1) refl
+  where
+    small : limit % 256 ^ 8 < 2 ^ 64
+    small = mod-lt limit (lit< tt)
+
+    spellable : leb direction 1 ≡ true → Spellable current (record { memory = contents current b .memory; taken = contents current b .taken; settings = settings (limit % 256 ^ 8) direction })
+    spellable e =
+        let p = good-contents current b g in
+        record { good = and e (and (tables-ok current (contents current b) p Memory) (tables-ok current (contents current b) p Taken)); limit = small }
+
+    go : (t : Bool) → leb direction 1 ≡ t → good current (set current limit direction b .block) ≡ true
+    go false e = rw (g, e) g
+    go true e = rw (g, e, ← limit-spelled current (contents current b .memory) (contents current b .taken) limit direction) (good-spelled-block current small-current _ (spellable e))
+
+-- a fresh block is good; other lengths are refused
+pub fresh-good : (b : List ℕ) → fresh current b .number ≡ 0 → good current (fresh current b .block) ≡ true
+unfolding fresh
+fresh-good b h = go (eqb (length b) (blockLength current)) refl h
+  where
+    go : (t : Bool) → eqb (length b) (blockLength current) ≡ t → cond t (done (blockBytes current freshContents)) (outcome 1 b) .number ≡ 0
+        → good current (cond t (done (blockBytes current freshContents)) (outcome 1 b) .block) ≡ true
+    go true e n = good-spelled-block current small-current freshContents fresh-spellable
+    go false e n = absurd (omega (arith, n))

@@ -43,9 +43,9 @@ pub difference-no : (n k : ℕ) → n < k → Outside ≡ difference n k
 unfolding difference
 difference-no n k h = rw (lt-leb k n h)
 
-pub difference-yes : (n k : ℕ) → k ≤ n → At (record { 0 = n - k }) ≡ difference n k
+pub difference-yes : (n k : ℕ) (a : Address) → a .0 ≡ n - k → k ≤ n → At a ≡ difference n k
 unfolding difference
-difference-yes n k h = rw (le-leb k n h)
+difference-yes n k a e h = rw (le-leb k n h, ← e)
 
 -- ---- what an answer tells
 

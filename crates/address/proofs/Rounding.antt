@@ -22,8 +22,8 @@ module _ (n k r : ℕ) (q : r ≡ n % k) where
   pub rest-le : r ≤ n
   rest-le = omega (arith, mod-le n k)
 
-  pub rest-lt : powerOfTwo k ≡ true → r ≤ k
-  rest-lt p = omega (arith, mod-lt n (power-some k p))
+  pub rest-le-divisor : powerOfTwo k ≡ true → r ≤ k
+  rest-le-divisor p = omega (arith, mod-lt n (power-some k p))
 
 module _ (x k : ℕ) (pos : 0 < k) where
   pub up-ge : x ≤ up x k

@@ -1,7 +1,7 @@
-// Addresses and sizes: two types that cannot change places, with checked sums, rounding and the power-of-two test.
+// Addresses and sizes: two types that cannot change places, with their sums and differences, rounding and the power-of-two test.
 ghost use mathlib.Core.Path.{_≡_};
 ghost use mathlib.Core.Bool.{true};
-ghost use Prim.Native.Nat.{_+_, _%_, min, max};
+ghost use Prim.Native.Nat.{_+_, _-_, _%_, _≤_, _<_, min, max};
 ghost use Rattle.address.specs.Numbers.{up as roundUp, down as roundDown, powerOfTwo, address, difference, size};
 
 // A place in memory, 0 to 2^64 - 1.
@@ -30,25 +30,57 @@ fn remainder(x: u64, by: u64) -> u64
     x & (by - 1)
 }
 
+// The multiple of a power of two at or below `x`.
+fn round_down(x: u64, by: u64) -> u64
+    requires { ⌜ powerOfTwo by ≡ true ⌝ }
+    ensures { λ r. ⌜ r ≡ roundDown x by ⌝ }
+{
+    x - remainder(x, by)
+}
+
 impl Address {
-    // The address `by` further on.
+    // The address `by` further on, which exists.
+    pub fn add(self, by: Size) -> Address
+        requires { ⌜ self .0 + by .0 < 18446744073709551616 ⌝ }
+        ensures { λ r. ⌜ r .0 ≡ self .0 + by .0 ⌝ }
+    {
+        Address(self.0 + by.0)
+    }
+
+    // The address `by` further back, which exists.
+    pub fn sub(self, by: Size) -> Address
+        requires { ⌜ by .0 ≤ self .0 ⌝ }
+        ensures { λ r. ⌜ r .0 ≡ self .0 - by .0 ⌝ }
+    {
+        Address(self.0 - by.0)
+    }
+
+    // How far it lies above `base`, which is no higher.
+    pub fn offset_from(self, base: Address) -> Size
+        requires { ⌜ base .0 ≤ self .0 ⌝ }
+        ensures { λ r. ⌜ r .0 ≡ self .0 - base .0 ⌝ }
+    {
+        Size(self.0 - base.0)
+    }
+
+    // The address `by` further on, if it exists.
     pub fn plus(self, by: Size) -> CheckedAddress
         ensures { λ r. ⌜ r ≡ address (self .0 + by .0) ⌝ }
     {
         if 0xFFFF_FFFF_FFFF_FFFF - self.0 < by.0 {
             return CheckedAddress::Outside;
         }
-        CheckedAddress::At(Address(self.0 + by.0))
+        CheckedAddress::At(self.add(by))
     }
 
-    // The address `by` further back.
+    // The address `by` further back, if it exists.
     pub fn minus(self, by: Size) -> CheckedAddress
         ensures { λ r. ⌜ r ≡ difference (self .0) (by .0) ⌝ }
     {
         if self.0 < by.0 {
             return CheckedAddress::Outside;
         }
-        CheckedAddress::At(Address(self.0 - by.0))
+        CheckedAddress::At(self.sub(by))
     }
 
     // The lowest multiple of `by`, a power of two, at or above.
@@ -68,7 +100,7 @@ impl Address {
         requires { ⌜ powerOfTwo (by .0) ≡ true ⌝ }
         ensures { λ r. ⌜ r .0 ≡ roundDown (self .0) (by .0) ⌝ }
     {
-        Address(self.0 - remainder(self.0, by.0))
+        Address(round_down(self.0, by.0))
     }
 
     // The higher of the two.
@@ -87,14 +119,30 @@ impl Address {
 }
 
 impl Size {
-    // Both together.
+    // Both together, which is a size.
+    pub fn add(self, more: Size) -> Size
+        requires { ⌜ self .0 + more .0 < 18446744073709551616 ⌝ }
+        ensures { λ r. ⌜ r .0 ≡ self .0 + more .0 ⌝ }
+    {
+        Size(self.0 + more.0)
+    }
+
+    // What is left of it without `less`, which is no larger.
+    pub fn sub(self, less: Size) -> Size
+        requires { ⌜ less .0 ≤ self .0 ⌝ }
+        ensures { λ r. ⌜ r .0 ≡ self .0 - less .0 ⌝ }
+    {
+        Size(self.0 - less.0)
+    }
+
+    // Both together, if that is a size.
     pub fn plus(self, more: Size) -> CheckedSize
         ensures { λ r. ⌜ r ≡ size (self .0 + more .0) ⌝ }
     {
         if 0xFFFF_FFFF_FFFF_FFFF - self.0 < more.0 {
             return CheckedSize::Outside;
         }
-        CheckedSize::Of(Size(self.0 + more.0))
+        CheckedSize::Of(self.add(more))
     }
 
     // The least multiple of `by` that is no less.
@@ -114,7 +162,7 @@ impl Size {
         requires { ⌜ powerOfTwo (by .0) ≡ true ⌝ }
         ensures { λ r. ⌜ r .0 ≡ roundDown (self .0) (by .0) ⌝ }
     {
-        Size(self.0 - remainder(self.0, by.0))
+        Size(round_down(self.0, by.0))
     }
 
     // Whether an alignment of this many bytes is a power of two.

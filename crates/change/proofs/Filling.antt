@@ -272,15 +272,16 @@ module _ (t : List ℕ) (y : Tally) (w : Whole t y) (i lo hi : ℕ) (tag : Tag) 
         let c = filled-total t (y .count) i (record { 0 = hi }) tag (w .table) (place-le t (y .count) lo i e) h f lo l e in
         omega (arith, w .total, a, b, c)
 
-    pub gap-small : y .total .0 + (hi - lo) < 18446744073709551616
-    gap-small = omega (arith, gap-total, total-le (at (put (low .at) (high .at) (one ∷ []) (readRegions (y .count) t))) top, top-is)
+    pub gap-small : (d : ℕ) → d ≡ hi - lo → y .total .0 + d < 18446744073709551616
+    gap-small d ed = omega (arith, gap-total, total-le (at (put (low .at) (high .at) (one ∷ []) (readRegions (y .count) t))) top, top-is)
 
-    pub gap-done : (x : List ℕ) → x ≡ tableBytes (length t / 24) (put (low .at) (high .at) (region (low .bound .0) (high .bound .0 - low .bound .0) tag ∷ []) (readRegions (y .count) t))
+    pub gap-done : (s d m : ℕ) → s ≡ high .bound .0 - low .bound .0 → d ≡ hi - lo → m ≡ y .total .0 + d → (x : List ℕ)
+        → x ≡ tableBytes (length t / 24) (put (low .at) (high .at) (region (low .bound .0) s tag ∷ []) (readRegions (y .count) t))
         → y .count - (high .at - low .at) + 1 ≤ length t / 24
-        → Stored t x (shortest (after (change (Fill tag)) lo hi (at (readRegions (y .count) t))) top) (To (record { count = y .count - (high .at - low .at) + 1; total = record { 0 = y .total .0 + (hi - lo) } }))
+        → Stored t x (shortest (after (change (Fill tag)) lo hi (at (readRegions (y .count) t))) top) (To (record { count = y .count - (high .at - low .at) + 1; total = record { 0 = m } }))
     unfolding one
-    gap-done x q k =
-        rw gap-is (put-done t (y .count) (low .at) (high .at) gap-order gap-most (w .table .room) (w .table .rising) (one ∷ []) one-rises (Rises-rises gap-rises) (y .total .0 + (hi - lo)) gap-total 1 refl k x q)
+    gap-done s d m es ed em x q k =
+        rw gap-is (put-done t (y .count) (low .at) (high .at) gap-order gap-most (w .table .room) (w .table .rising) (one ∷ []) one-rises (Rises-rises gap-rises) m (omega (arith, gap-total)) 1 refl k x (rw es at q))
 
 -- ---- the place of a range that is filled
 

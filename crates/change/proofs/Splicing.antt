@@ -112,15 +112,17 @@ module _ (t : List ℕ) (count first stop : ℕ) (a : first ≤ stop) (b : stop 
         pub lost-le : lost ≤ old
         lost-le = omega (arith, sums .0)
 
-        pub put-total : old - lost + won ≡ total (at (put first stop ys (readRegions count t))) top
-        put-total = omega (arith, sums)
+        module _ (kept : ℕ) (ek : kept ≡ old - lost) where
+          put-total : kept + won ≡ total (at (put first stop ys (readRegions count t))) top
+          put-total = omega (arith, sums)
 
-        pub put-small : old - lost + won < 18446744073709551616
-        put-small = omega (arith, put-total, total-le (at (put first stop ys (readRegions count t))) top, top-is)
+          pub put-small : kept + won < 18446744073709551616
+          put-small = omega (arith, put-total, total-le (at (put first stop ys (readRegions count t))) top, top-is)
 
-        pub splice-done : (n : ℕ) → n ≡ length ys → count - (stop - first) + n ≤ length t / 24 → (e : List ℕ) → e ≡ tableBytes (length t / 24) (put first stop ys (readRegions count t))
-            → Stored t e (put first stop ys (readRegions count t)) (To (record { count = count - (stop - first) + n; total = record { 0 = old - lost + won } }))
-        splice-done n en h e q = put-done (old - lost + won) put-total n en h e q
+          pub splice-done : (s : ℕ) → s ≡ kept + won → (n : ℕ) → n ≡ length ys → count - (stop - first) + n ≤ length t / 24 → (e : List ℕ)
+              → e ≡ tableBytes (length t / 24) (put first stop ys (readRegions count t))
+              → Stored t e (put first stop ys (readRegions count t)) (To (record { count = count - (stop - first) + n; total = record { 0 = s } }))
+          splice-done s es n en h e q = put-done s (es ∙ put-total) n en h e q
 
       pub splice-full : (n : ℕ) → n ≡ length ys → length t / 24 < count - (stop - first) + n → Stored t t (put first stop ys (readRegions count t)) NoRoom
       unfolding storedAnswer storedBytes

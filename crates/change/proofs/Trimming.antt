@@ -75,9 +75,9 @@ module _ (r : Region) (k : Size) (pow : powerOfTwo (k .0) ≡ true) (h : end r �
       unfolding rounded
       round-none l = rw (← base-is, ← past-is, le-ltb (b .0) (p .0) l)
 
-      pub round-left : b .0 < p .0 → Left (record { base = b; size = record { 0 = p .0 - b .0 }; tag = r .tag }) ≡ rounded (k .0) r
+      pub round-left : (s : Size) → s .0 ≡ p .0 - b .0 → b .0 < p .0 → Left (record { base = b; size = s; tag = r .tag }) ≡ rounded (k .0) r
       unfolding rounded
-      round-left l = rw (← base-is, ← past-is, lt-ltb (b .0) (p .0) l)
+      round-left s es l = rw (← base-is, ← past-is, lt-ltb (b .0) (p .0) l, ← es)
 
 -- ---- the list
 

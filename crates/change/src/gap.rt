@@ -107,7 +107,7 @@ fn fill_gap(t: &mut [u8], tally: Tally, i: usize, lo: Address, hi: Address, tag:
     let stop = high.at;
     let r = Region {
         base,
-        size: Size(end.0 - base.0),
+        size: end.offset_from(base),
         tag,
     };
     let count = tally.count as usize;
@@ -116,9 +116,11 @@ fn fill_gap(t: &mut [u8], tally: Tally, i: usize, lo: Address, hi: Address, tag:
         return Changed::NoRoom;
     }
     replace_one(t, count, first, stop, r);
+    // by its number: with a copy of the field the tally is no longer passed in registers
+    let total = Size(tally.total.0);
     Changed::To(Tally {
         count: left as u32,
-        total: Size(tally.total.0 + (hi.0 - lo.0)),
+        total: total.add(hi.offset_from(lo)),
     })
 }
 

@@ -47,7 +47,7 @@ fn below(a: Address) -> Address
     if a.0 == 0 {
         return a;
     }
-    Address(a.0 - 1)
+    a.sub(Size(1))
 }
 
 // How many of the first records begin at or below `a`; `from` of them do.
@@ -94,7 +94,7 @@ pub fn splice(t: &mut [u8], tally: Tally, met: Met, src: &[u8], n: usize) -> Cha
     replace(t, count, first, stop, src, n);
     Changed::To(Tally {
         count: left as u32,
-        total: Size(tally.total.0 - lost.0 + won.0),
+        total: tally.total.sub(lost).add(won),
     })
 }
 

@@ -44,7 +44,7 @@ fn round_region(r: Region, align: Size) -> Rounded
     }
     Rounded::Left(Region {
         base,
-        size: Size(past.0 - base.0),
+        size: past.offset_from(base),
         tag,
     })
 }

@@ -144,9 +144,9 @@ module _ (l : List ℕ) (n cap c e : ℕ) where
       let z : e - c ≡ 0 = omega arith in
       rw (a, z) (count-holds l cap n (readRegions n l) h refl)
 
-  pub piece-some : (v : State) (t : Tag) (l′ : List ℕ) (a : Pushed) → v ≡ Present t → c ≤ e → (c ≡ e → ⊥) → Holds l′ cap (join (readRegions n l) c (e - c) t) a
-      → Holds l′ cap (push (readRegions n l) c (e - c) v) a
-  piece-some v t l′ a q h d p = rw (q, push-present (readRegions n l) c (e - c) t (omega arith)) p
+  pub piece-some : (v : State) (t : Tag) (s : ℕ) (l′ : List ℕ) (a : Pushed) → v ≡ Present t → s ≡ e - c → c ≤ e → (c ≡ e → ⊥)
+      → Holds l′ cap (join (readRegions n l) c s t) a → Holds l′ cap (push (readRegions n l) c (e - c) v) a
+  piece-some v t s l′ a q z h d p = rw (q, ← z, push-present (readRegions n l) c s t (omega arith)) p
 
 -- ---- addresses that no record has: only what the change makes of them inside the range is put behind
 

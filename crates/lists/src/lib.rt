@@ -2,7 +2,6 @@
 use address::Address;
 use address::CheckedAddress;
 use address::CheckedSize;
-use address::Size;
 use regions::Change;
 use regions::Region;
 use regions::State;
@@ -93,7 +92,7 @@ fn push_piece(out: &mut [u8], n: usize, cap: usize, from: Address, to: Address, 
     }
     let r = Region {
         base: from,
-        size: Size(to.0 - from.0),
+        size: to.offset_from(from),
         tag,
     };
     push_region(out, n, cap, r)

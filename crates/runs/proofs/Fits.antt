@@ -143,8 +143,8 @@ module _ (q : Query) (from to : Address) where
     pub low-none : to .0 < from .0 → checked.Outside ≡ spotOf (cutLow q (from .0) (to .0))
     low-none h = low-no (omega (arith, up-ge (from .0) (q .align .0) (power-some (q .align .0) l)))
 
-    pub low-short : from .0 ≤ to .0 → to .0 - from .0 < q .size .0 → checked.Outside ≡ spotOf (cutLow q (from .0) (to .0))
-    low-short h k = low-no (omega (arith, up-ge (from .0) (q .align .0) (power-some (q .align .0) l)))
+    pub low-short : (room : ℕ) → room ≡ to .0 - from .0 → from .0 ≤ to .0 → room < q .size .0 → checked.Outside ≡ spotOf (cutLow q (from .0) (to .0))
+    low-short room e h k = low-no (omega (arith, up-ge (from .0) (q .align .0) (power-some (q .align .0) l)))
 
   module _ (u : CheckedAddress) (rounded : u ≡ address (up (from .0) (q .align .0))) where
     pub low-none-up : u ≡ checked.Outside → to .0 < 18446744073709551616 → checked.Outside ≡ spotOf (cutLow q (from .0) (to .0))

@@ -39,7 +39,7 @@ pub fn fit_low(from: Address, to: Address, q: Query) -> CheckedAddress
     if to.0 < from.0 {
         return CheckedAddress::Outside;
     }
-    if to.0 - from.0 < size.0 {
+    if to.offset_from(from).0 < size.0 {
         return CheckedAddress::Outside;
     }
     let CheckedAddress::At(a) = from.up(align) else {

@@ -27,7 +27,7 @@ fn past(r: Region) -> Address
     requires { ⌜ endOf r < 18446744073709551616 ⌝ }
     ensures { λ a. ⌜ a .0 ≡ endOf r ⌝ }
 {
-    Address(r.base.0 + r.size.0)
+    r.base.add(r.size)
 }
 
 // Where a taken record begins and ends.

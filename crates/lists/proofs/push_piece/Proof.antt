@@ -16,8 +16,8 @@ returns c = search (piece-absent, needs)
 returns-2 : tie.Need-returns-2
 returns-2 c = search (piece-empty, needs)
 
-sub-t10 : tie.Need-sub-t10
-sub-t10 c = search needs
+offset-from-requires : tie.Need-offset-from-requires
+offset-from-requires c κs = search needs
 
 push-region-requires : tie.Need-push-region-requires
 push-region-requires c κs = search needs
@@ -36,7 +36,7 @@ push-piece-spec =
     enum-told
     returns
     returns-2
-    sub-t10
+    offset-from-requires
     push-region-requires
     same-length
     returns-3)

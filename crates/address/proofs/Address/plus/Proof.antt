@@ -11,11 +11,11 @@ sub-if1 c = search needs
 returns : tie.Need-returns
 returns c = small-no _ _ _ (omega arith)
 
-add-t3 : tie.Need-add-t3
-add-t3 c = search needs
+add-requires : tie.Need-add-requires
+add-requires c κs = search needs
 
 returns-2 : tie.Need-returns-2
-returns-2 c = small-yes _ _ _ (omega arith)
+returns-2 c = rw (← c .add .ensures) (small-yes _ _ _ (search needs))
 
 pub plus-spec : {M : Type 1} → statement M
-plus-spec = tie.close (tie.spec sub-if1 returns add-t3 returns-2)
+plus-spec = tie.close (tie.spec sub-if1 returns add-requires returns-2)

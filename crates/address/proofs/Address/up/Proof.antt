@@ -1,6 +1,6 @@
 -- `address::Address::up` meets its contract.
 use Rattle.address.proofs.Checked.{small-yes}
-use Rattle.address.proofs.Rounding.{up-even, up-odd, rest-lt}
+use Rattle.address.proofs.Rounding.{up-even, up-odd, rest-le-divisor}
 use borrow.Author.Needs.{needs}
 use Rattle.address.proofs.Address.up.Statement.{statement}
 use Rattle.address.proofs.Address.up.Tie as tie
@@ -12,7 +12,7 @@ returns : tie.Need-returns
 returns c = rw (up-even _ _ _ (c .before .remainder .ensures) (c .if1 .taken)) (small-yes _ _ _ (search needs))
 
 sub-t5 : tie.Need-sub-t5
-sub-t5 c = rest-lt _ _ _ (c .before .before .remainder .ensures) (c .before .before .before .pre)
+sub-t5 c = search (rest-le-divisor, needs)
 
 plus-requires : tie.Need-plus-requires
 plus-requires c κs = search needs

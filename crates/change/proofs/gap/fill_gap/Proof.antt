@@ -20,8 +20,8 @@ side-above-requires c κs =
     let p = c .before .before .before .before .before .pre in
     (p .0 .table, (place-le _ _ _ _ (p .1 .0 .0), (p .1 .1 .0, p .1 .1 .1)))
 
-sub-t21 : tie.Need-sub-t21
-sub-t21 c = search needs
+offset-from-requires : tie.Need-offset-from-requires
+offset-from-requires c κs = search needs
 
 cast-count : tie.Need-cast-count
 cast-count c = search needs
@@ -31,9 +31,9 @@ sub-left c = search needs
 
 sub-left-2 : tie.Need-sub-left-2
 sub-left-2 c =
-    let p = c .before .before .before .before .before .before .before .before .before .before .before .pre in
-    let u = c .before .before .before .before .before .before .before .before .side-below in
-    let v = c .before .before .before .before .before .side-above in
+    let p = c .before .before .before .before .before .before .before .before .before .before .pre in
+    let u = c .before .before .before .before .before .before .before .side-below in
+    let v = c .before .before .before .before .side-above in
     let o = gap-order _ _ (p .0) _ _ _ _ (p .1 .0 .0) (p .1 .0 .1) _ (u .ensures) _ (v .ensures) in
     let m = gap-most _ _ (p .0) _ _ _ _ (p .1 .0 .0) (p .1 .0 .1) _ (u .ensures) _ (v .ensures) in
     omega arith
@@ -45,18 +45,14 @@ same-length : tie.Need-same-length
 same-length c = search needs
 
 returns : tie.Need-returns
-returns c =
-    let p = c .before .before .before .before .before .before .before .before .before .before .before .before .pre in
-    let u = c .before .before .before .before .before .before .before .before .before .side-below in
-    let v = c .before .before .before .before .before .before .side-above in
-    gap-full _ _ (p .0) _ _ _ _ (p .1 .0 .0) (p .1 .0 .1) _ (u .ensures) _ (v .ensures) (c .if1 .taken)
+returns c = search (gap-full, needs)
 
 replace-one-requires : tie.Need-replace-one-requires
 replace-one-requires c κs =
-    let s = c .before .before .before .before .before .before .before .before .before .before .before .before .before in
+    let s = c .before .before .before .before .before .before .before .before .before .before .before .before in
     let p = s .pre in
-    let u = c .before .before .before .before .before .before .before .before .before .before .side-below in
-    let v = c .before .before .before .before .before .before .before .side-above in
+    let u = c .before .before .before .before .before .before .before .before .before .side-below in
+    let v = c .before .before .before .before .before .before .side-above in
     let o = gap-order _ _ (p .0) _ _ _ _ (p .1 .0 .0) (p .1 .0 .1) _ (u .ensures) _ (v .ensures) in
     let m = gap-most _ _ (p .0) _ _ _ _ (p .1 .0 .0) (p .1 .0 .1) _ (u .ensures) _ (v .ensures) in
     let w = p .0 in (
@@ -67,25 +63,25 @@ replace-one-requires c κs =
 cast-t28 : tie.Need-cast-t28
 cast-t28 c = search needs
 
-sub-t21-2 : tie.Need-sub-t21-2
-sub-t21-2 c = omega (arith, c .before .before .before .before .before .before .before .before .before .before .before .before .before .before .before .before .before .before .pre .1 .0 .1)
+offset-from-requires-2 : tie.Need-offset-from-requires-2
+offset-from-requires-2 c κs = search needs
 
-add-t29 : tie.Need-add-t29
-add-t29 c =
-    let p = c .before .before .before .before .before .before .before .before .before .before .before .before .before .before .before .before .before .before .before .pre in
-    let u = c .before .before .before .before .before .before .before .before .before .before .before .before .before .before .before .before .side-below in
-    let v = c .before .before .before .before .before .before .before .before .before .before .before .before .before .side-above in
-    record { fits = gap-small _ _ (p .0) _ _ _ _ (p .1 .0 .0) (p .1 .0 .1) _ (u .ensures) _ (v .ensures) (p .1 .1 .0) (p .1 .1 .1) }
+add-requires : tie.Need-add-requires
+add-requires c κs =
+    let p = c .before .before .before .before .before .before .before .before .before .before .before .before .before .before .before .before .pre in
+    let u = c .before .before .before .before .before .before .before .before .before .before .before .before .before .side-below in
+    let v = c .before .before .before .before .before .before .before .before .before .before .side-above in
+    gap-small _ _ (p .0) _ _ _ _ (p .1 .0 .0) (p .1 .0 .1) _ (u .ensures) _ (v .ensures) (p .1 .1 .0) (p .1 .1 .1) _ (c .offset-from2 .ensures)
 
 same-length-2 : tie.Need-same-length-2
 same-length-2 c = search needs
 
 returns-2 : tie.Need-returns-2
 returns-2 c =
-    let p = c .before .before .before .before .before .before .before .before .before .before .before .before .before .before .before .before .before .before .before .pre in
-    let u = c .before .before .before .before .before .before .before .before .before .before .before .before .before .before .before .before .side-below in
-    let v = c .before .before .before .before .before .before .before .before .before .before .before .before .before .side-above in
-    gap-done _ _ (p .0) _ _ _ _ (p .1 .0 .0) (p .1 .0 .1) _ (u .ensures) _ (v .ensures) (p .1 .1 .0) (p .1 .1 .1) _ (c .before .before .before .before .before .replace-one .ensures) (c .before .before .before .before .before .before .before .if1 .left)
+    let p = c .before .before .before .before .before .before .before .before .before .before .before .before .before .before .before .before .before .pre in
+    let u = c .before .before .before .before .before .before .before .before .before .before .before .before .before .before .side-below in
+    let v = c .before .before .before .before .before .before .before .before .before .before .before .side-above in
+    gap-done _ _ (p .0) _ _ _ _ (p .1 .0 .0) (p .1 .0 .1) _ (u .ensures) _ (v .ensures) (p .1 .1 .0) (p .1 .1 .1) _ _ _ (c .before .before .before .before .before .before .before .before .offset-from .ensures) (c .before .offset-from2 .ensures) (c .add .ensures) _ (c .before .before .before .before .replace-one .ensures) (c .before .before .before .before .before .before .if1 .left)
 
 pub fill-gap-spec : {M : Type 1} → statement M
 fill-gap-spec =
@@ -94,7 +90,7 @@ fill-gap-spec =
     side-below-requires
     cast-side-above
     side-above-requires
-    sub-t21
+    offset-from-requires
     cast-count
     sub-left
     sub-left-2
@@ -103,7 +99,7 @@ fill-gap-spec =
     returns
     replace-one-requires
     cast-t28
-    sub-t21-2
-    add-t29
+    offset-from-requires-2
+    add-requires
     same-length-2
     returns-2)

@@ -66,35 +66,33 @@ replace-requires c κs =
 cast-t23 : tie.Need-cast-t23
 cast-t23 c = search needs
 
-sub-t24 : tie.Need-sub-t24
-sub-t24 c =
-    let s = c .before .before .before .before .before .before .before .before .before .before .before .before .before .before in
+sub-requires : tie.Need-sub-requires
+sub-requires c κs =
+    let s = c .before .before .before .before .before .before .before .before .before .before .before .before in
     let a = s .args in
     let p = s .pre in
     let y = a .tally in
-    let q = read-regions-length (a .n) (a .src .now) in
-    lost-le (a .t .now) (y .count) (a .met .first) (a .met .stop) (p .1 .0 .0) (p .1 .0 .1) (p .0 .table .room) (p .0 .table .rising) (readRegions (a .n) (a .src .now)) (p .1 .1 .1 .0) (p .1 .1 .1 .1) (y .total .0) _ _ (p .0 .total) (c .before .before .before .before .before .before .before .total-of .ensures) (c .before .before .before .before .before .before .total-of2 .ensures)
+    lost-le (a .t .now) (y .count) (a .met .first) (a .met .stop) (p .1 .0 .0) (p .1 .0 .1) (p .0 .table .room) (p .0 .table .rising) (readRegions (a .n) (a .src .now)) (p .1 .1 .1 .0) (p .1 .1 .1 .1) (y .total .0) _ _ (p .0 .total) (c .before .before .before .before .before .total-of .ensures) (c .before .before .before .before .total-of2 .ensures)
 
-add-t25 : tie.Need-add-t25
-add-t25 c =
-    let s = c .before .before .before .before .before .before .before .before .before .before .before .before .before .before .before in
+add-requires : tie.Need-add-requires
+add-requires c κs =
+    let s = c .before .before .before .before .before .before .before .before .before .before .before .before .before in
     let a = s .args in
     let p = s .pre in
     let y = a .tally in
-    let q = read-regions-length (a .n) (a .src .now) in
-    record { fits = put-small (a .t .now) (y .count) (a .met .first) (a .met .stop) (p .1 .0 .0) (p .1 .0 .1) (p .0 .table .room) (p .0 .table .rising) (readRegions (a .n) (a .src .now)) (p .1 .1 .1 .0) (p .1 .1 .1 .1) (y .total .0) _ _ (p .0 .total) (c .before .before .before .before .before .before .before .before .total-of .ensures) (c .before .before .before .before .before .before .before .total-of2 .ensures) }
+    put-small (a .t .now) (y .count) (a .met .first) (a .met .stop) (p .1 .0 .0) (p .1 .0 .1) (p .0 .table .room) (p .0 .table .rising) (readRegions (a .n) (a .src .now)) (p .1 .1 .1 .0) (p .1 .1 .1 .1) (y .total .0) _ _ (p .0 .total) (c .before .before .before .before .before .before .total-of .ensures) (c .before .before .before .before .before .total-of2 .ensures) _ (c .sub .ensures)
 
 same-length : tie.Need-same-length
 same-length c = search needs
 
 returns-2 : tie.Need-returns-2
 returns-2 c =
-    let s = c .before .before .before .before .before .before .before .before .before .before .before .before .before .before .before in
+    let s = c .before .before .before .before .before .before .before .before .before .before .before .before .before .before in
     let a = s .args in
     let p = s .pre in
     let y = a .tally in
     let q = read-regions-length (a .n) (a .src .now) in
-    splice-done (a .t .now) (y .count) (a .met .first) (a .met .stop) (p .1 .0 .0) (p .1 .0 .1) (p .0 .table .room) (p .0 .table .rising) (readRegions (a .n) (a .src .now)) (p .1 .1 .1 .0) (p .1 .1 .1 .1) (y .total .0) _ _ (p .0 .total) (c .before .before .before .before .before .before .before .before .total-of .ensures) (c .before .before .before .before .before .before .before .total-of2 .ensures) (a .n) (sym q) (c .before .before .before .before .before .before .before .before .before .before .before .if1 .left) _ (c .before .before .before .before .before .replace .ensures)
+    splice-done (a .t .now) (y .count) (a .met .first) (a .met .stop) (p .1 .0 .0) (p .1 .0 .1) (p .0 .table .room) (p .0 .table .rising) (readRegions (a .n) (a .src .now)) (p .1 .1 .1 .0) (p .1 .1 .1 .1) (y .total .0) _ _ (p .0 .total) (c .before .before .before .before .before .before .before .total-of .ensures) (c .before .before .before .before .before .before .total-of2 .ensures) _ (c .before .sub .ensures) _ (c .add .ensures) (a .n) (sym q) (c .before .before .before .before .before .before .before .before .before .before .if1 .left) _ (c .before .before .before .before .replace .ensures)
 
 pub splice-spec : {M : Type 1} → statement M
 splice-spec =
@@ -115,7 +113,7 @@ splice-spec =
     total-of-requires-2
     replace-requires
     cast-t23
-    sub-t24
-    add-t25
+    sub-requires
+    add-requires
     same-length
     returns-2)

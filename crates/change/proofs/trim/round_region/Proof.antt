@@ -34,8 +34,8 @@ down-requires c κs = search needs
 returns-3 : tie.Need-returns-3
 returns-3 c = search (round-none, needs)
 
-sub-t11 : tie.Need-sub-t11
-sub-t11 c = search needs
+offset-from-requires : tie.Need-offset-from-requires
+offset-from-requires c κs = search needs
 
 returns-4 : tie.Need-returns-4
 returns-4 c = search (round-left, needs)
@@ -54,5 +54,5 @@ round-region-spec =
     returns-2
     down-requires
     returns-3
-    sub-t11
+    offset-from-requires
     returns-4)

@@ -7,6 +7,9 @@ use Rattle.runs.proofs.fit.fit_low.Tie as tie
 returns : tie.Need-returns
 returns c = search (low-none, needs)
 
+offset-from-requires : tie.Need-offset-from-requires
+offset-from-requires c κs = search needs
+
 returns-2 : tie.Need-returns-2
 returns-2 c = search (low-short, needs)
 
@@ -45,6 +48,7 @@ fit-low-spec =
     tie.close
     (tie.spec
     returns
+    offset-from-requires
     returns-2
     up-requires
     enum-known-a

@@ -5,6 +5,7 @@ use mathlib.Core.Bool.{Bool, true, false, cond}
 use native.Mathlib.Omega.{arith}
 use lib.Dec.{ltb}
 use borrow.Author.Tests.{lt-ltb, le-ltb, ltb-true, ltb-false, le-leb, lt-leb}
+use Rattle.address.proofs.Tests.{zero-not-one}
 use Rattle.address.specs.Numbers.{ifSmall, address, size, difference}
 use Rattle.address.specs.declared.Address.{Address}
 use Rattle.address.specs.declared.Size.{Size}
@@ -51,22 +52,22 @@ difference-yes n k a e h = rw (le-leb k n h, ← e)
 
 pub address-at : (n : ℕ) (x : CheckedAddress) (a : Address) → x ≡ address n → x ≡ At a → (a .0 ≡ n) × (n < 2 ^ 64)
 address-at n x a e f =
-    let d : x ≡ Outside → ⊥ = λ g. let z : _≡_ {A = ℕ} 0 1 = cc in omega arith in
+    let d : x ≡ Outside → ⊥ = λ g. absurd (zero-not-one cc) in
     let m = small-made (λ y. At (record { 0 = y })) Outside n x e d in
     let r : a ≡ record { 0 = n } = cc in
     (ap (λ (y : Address). y .0) r, m .1)
 
 pub address-outside : (n : ℕ) (x : CheckedAddress) → x ≡ address n → x ≡ Outside → 2 ^ 64 ≤ n
 address-outside n x e f =
-    small-other (λ y. At (record { 0 = y })) Outside n x e (λ g. let z : _≡_ {A = ℕ} 0 1 = cc in omega arith)
+    small-other (λ y. At (record { 0 = y })) Outside n x e (λ g. absurd (zero-not-one cc))
 
 pub size-of : (n : ℕ) (x : CheckedSize) (s : Size) → x ≡ size n → x ≡ Size.Of s → (s .0 ≡ n) × (n < 2 ^ 64)
 size-of n x s e f =
-    let d : x ≡ Size.Outside → ⊥ = λ g. let z : _≡_ {A = ℕ} 0 1 = cc in omega arith in
+    let d : x ≡ Size.Outside → ⊥ = λ g. absurd (zero-not-one cc) in
     let m = small-made (λ y. Size.Of (record { 0 = y })) Size.Outside n x e d in
     let r : s ≡ record { 0 = n } = cc in
     (ap (λ (y : Size). y .0) r, m .1)
 
 pub size-outside : (n : ℕ) (x : CheckedSize) → x ≡ size n → x ≡ Size.Outside → 2 ^ 64 ≤ n
 size-outside n x e f =
-    small-other (λ y. Size.Of (record { 0 = y })) Size.Outside n x e (λ g. let z : _≡_ {A = ℕ} 0 1 = cc in omega arith)
+    small-other (λ y. Size.Of (record { 0 = y })) Size.Outside n x e (λ g. absurd (zero-not-one cc))

@@ -8,7 +8,7 @@ use lib.Dec.{leb}
 use lib.ListN.{length, take, drop, replicate, length-append, length-drop, length-replicate, take-append-drop}
 use lib.Seq.{take-at, drop-at, length-take-le, take-all, drop-drop}
 use borrow.Author.Tests.{leb-true, le-leb, not-true, not-false}
-use Rattle.address.proofs.Tests.{both, and, no, clash}
+use Rattle.address.proofs.Tests.{both, and, no, clash, zero-not-one}
 use Rattle.address.specs.declared.Size.{Size}
 use Rattle.regions.specs.declared.Kind.{Kind}
 use Rattle.regions.specs.declared.Kind.the-variants.{Memory, Taken}
@@ -21,7 +21,7 @@ use Rattle.regions.proofs.Records.{regions-bytes-read, regions-bytes-length, re
 use Rattle.block.specs.declared.Layout.{Layout}
 use Rattle.block.specs.declared.Header.{Header}
 use Rattle.block.specs.Block.{current, capacity, offset, blockLength, Contents, listOf, headerBytes, headerOf, blockBytes, readHeader, part, contents, sameBytes, goodTable, goodContents, good}
-use Rattle.records.specs.Checks.{zeros, goodPart, checkedTable}
+use Rattle.records.specs.Checks.{allZeros, goodPart, checkedTable}
 use Rattle.block.specs.Checks.{withTotals}
 use Rattle.records.specs.declared.table.Checked.{Checked}
 use Rattle.records.specs.declared.table.Checked.the-variants.{Total, Bad}
@@ -43,13 +43,13 @@ table-length n xs h =
     ∙ omega (arith, regions-bytes-length xs, length-replicate {A = ℕ} (24 * (n - length xs)) 0)
 
 -- what lies behind the records is zeros
-table-tail : (n : ℕ) (xs : List Region) → zeros (drop (24 * length xs) (tableBytes n xs)) ≡ true
+table-tail : (n : ℕ) (xs : List Region) → allZeros (drop (24 * length xs) (tableBytes n xs)) ≡ true
 unfolding tableBytes
 table-tail n xs =
     rw (drop-at (regionsBytes xs) (replicate (24 * (n - length xs)) 0) (24 * length xs) (regions-bytes-length xs)) (replicate-zeros (24 * (n - length xs)))
 
 -- a part with zeros behind its records is the spelling of them
-part-spelled : (c n : ℕ) (l : List ℕ) → Bytes l → length l ≡ 24 * c → n ≤ c → zeros (drop (24 * n) l) ≡ true → tableBytes c (readRegions n l) ≡ l
+part-spelled : (c n : ℕ) (l : List ℕ) → Bytes l → length l ≡ 24 * c → n ≤ c → allZeros (drop (24 * n) l) ≡ true → tableBytes c (readRegions n l) ≡ l
 unfolding tableBytes
 part-spelled c n l h e f z =
     let g : 24 * n ≤ length l = omega arith in
@@ -149,7 +149,7 @@ module _ (L : Layout) (b : List ℕ) where
     good-length = rw (← good-spelled) (block-length L (contents L b) good-contents)
 
     -- a good table's part passes its check
-    pub part-zeros : (k : Kind) (n : ℕ) → listOf (contents L b) k ≡ readRegions n (part L k b) → zeros (drop (24 * n) (part L k b)) ≡ true
+    pub part-zeros : (k : Kind) (n : ℕ) → listOf (contents L b) k ≡ readRegions n (part L k b) → allZeros (drop (24 * n) (part L k b)) ≡ true
     part-zeros k n e =
         let s = contents L b in
         let m : length (listOf s k) ≡ n = ap (length {A = Region}) e ∙ read-regions-length n (part L k b) in
@@ -165,7 +165,7 @@ module _ (L : Layout) (b : List ℕ) where
         let m : length (listOf s k) ≡ n = ap (length {A = Region}) e ∙ read-regions-length n l in
         let r : n ≤ c = omega (arith, room L s good-contents k) in
         let x : l ≡ tableBytes c (listOf s k) = ap (part L k) (sym good-spelled) ∙ part-is L s good-contents k in
-        let z : zeros (drop (24 * n) l) ≡ true = rw (← m, x) (table-tail c (listOf s k)) in
+        let z : allZeros (drop (24 * n) l) ≡ true = rw (← m, x) (table-tail c (listOf s k)) in
         let d : n ≤ length l / 24 = omega (arith, part-length L b good-length k) in
         let g : goodList k (readRegions n l) ≡ true = rw (← e) (lists-ok L s good-contents k) in
         and (le-leb n (length l / 24) d) (and g z)
@@ -185,8 +185,8 @@ module _ (L : Layout) (b : List ℕ) where
     part-table k n e g =
         let c : ℕ = capacity L k in
         let l : List ℕ = part L k b in
-        let p = both (leb n (length l / 24)) (goodList k (readRegions n l) && zeros (drop (24 * n) l)) g in
-        let q = both (goodList k (readRegions n l)) (zeros (drop (24 * n) l)) (p .1) in
+        let p = both (leb n (length l / 24)) (goodList k (readRegions n l) && allZeros (drop (24 * n) l)) g in
+        let q = both (goodList k (readRegions n l)) (allZeros (drop (24 * n) l)) (p .1) in
         let m : length (listOf (contents L b) k) ≡ n = ap (length {A = Region}) e ∙ read-regions-length n l in
         let r : n ≤ c = omega (arith, leb-true n (length l / 24) (p .0), part-length L b len k) in
         let h : Bytes l = bytes-take (24 * c) (drop (offset L k) b) (bytes-drop (offset L k) b bs) in
@@ -224,7 +224,7 @@ unfolding checkedTable
 part-bad k n l x e f = go (goodPart k n l) e
   where
     go : (b : Bool) → x ≡ cond b (Total (record { 0 = total (at (readRegions n l)) top })) Bad → b ≡ false
-    go true g = absurd (let z : _≡_ {A = ℕ} 0 1 = cc in omega arith)
+    go true g = absurd (zero-not-one cc)
     go false g = refl
 
 part-total : (k : Kind) (n : ℕ) (l : List ℕ) (x : Checked) (s : Size) → x ≡ checkedTable k n l → x ≡ Total s
@@ -234,7 +234,7 @@ part-total k n l x s e f = go (goodPart k n l) e
   where
     go : (b : Bool) → x ≡ cond b (Total (record { 0 = total (at (readRegions n l)) top })) Bad → (b ≡ true) × (s ≡ record { 0 = total (at (readRegions n l)) top })
     go true g = (refl, cc)
-    go false g = absurd (let z : _≡_ {A = ℕ} 0 1 = cc in omega arith)
+    go false g = absurd (zero-not-one cc)
 
 module _ (L : Layout) (b : List ℕ) where
   pub bad-length : (n : ℕ) → (length b ≡ n → ⊥) → n ≡ blockLength L → false ≡ good L b

@@ -7,7 +7,7 @@ use mathlib.Core.Logic.{_⊎_, inl, inr}
 use native.Mathlib.Omega.{arith}
 use lib.Dec.{leb}
 use lib.ListN.{length, take, drop, take-append-drop}
-use Rattle.address.proofs.Tests.{le-or-lt}
+use Rattle.address.proofs.Tests.{le-or-lt, zero-not-one}
 use Rattle.regions.specs.declared.State.{State}
 use borrow.Author.Tests.{leb-true, leb-false, le-leb, not-true, not-false}
 use Rattle.address.specs.declared.Address.{Address}
@@ -24,7 +24,7 @@ use Rattle.regions.specs.Lists.{rises}
 use Rattle.regions.specs.Changes.{change, after}
 use Rattle.regions.specs.Bytes.{number, readRegion, readRegions, tableBytes}
 use Rattle.regions.proofs.Push.{same-true, same-self, joins-true}
-use Rattle.regions.proofs.Rises.{Fits, Rises, done, next, Canonical, reach, edge, rises-Rises, Rises-rises}
+use Rattle.regions.proofs.Rises.{Fits, Rises, ended, next, Canonical, reach, edge, rises-Rises, Rises-rises}
 use Rattle.regions.proofs.RoundTrip.{canonical-shortest, join-snoc, rises-end, at-here, at-past}
 use Rattle.regions.proofs.Prefix.{rest-rises}
 use Rattle.regions.proofs.Middle.{starts, canonical-part}
@@ -171,7 +171,7 @@ module _ (l : List ℕ) (n i : ℕ) (hi : Address) (tag : Tag) (w : Table l n) (
       }
 
   pub over-end : n ≤ i → JoinedAbove (readRegions n l) i (hi .0) tag (record { at = i; bound = hi })
-  over-end h = as-is (rw (drop-read i n l k, read-regions-end i n (drop (24 * i) l) h) (done t))
+  over-end h = as-is (rw (drop-read i n l k, read-regions-end i n (drop (24 * i) l) h) (ended t))
 
   module _ (h : i < n) (r : Region) (here : r ≡ readRegion (drop (24 * i) l)) where
     rest : drop i (readRegions n l) ≡ r ∷ drop (i + 1) (readRegions n l)
@@ -201,8 +201,7 @@ module _ (l : List ℕ) (n i : ℕ) (hi : Address) (tag : Tag) (w : Table l n) (
         let g : tag ≡ r .tag = cc in
         let a : sameTag (r .tag) tag ≡ true = rw g (same-self (r .tag)) in
         let c : b ≡ false = not-true b e in
-        let z : _≡_ {A = ℕ} 0 1 = cc in
-        omega arith)
+        absurd (zero-not-one cc))
 
     past : end r ≤ top
     past = go behind
@@ -291,7 +290,7 @@ gap-at x d xs i t q f = rw f at q
 -- a range of which a rising list has no address meets no region
 vacant-clear : (lo hi : ℕ) → lo < hi → {c n : ℕ} {v : State} {xs : List Region} → Rises c v n xs → Vacant lo hi xs → clearTo hi (drop (endingBy lo xs) xs) ≡ true
 unfolding endingBy clearTo
-vacant-clear lo hi m (done l) h = refl
+vacant-clear lo hi m (ended l) h = refl
 vacant-clear lo hi m (next {r = r} {rs = rs} f w) h = go (leb (end r) lo) refl (le-or-lt hi (r .base .0)) (vacant-clear lo hi m w)
   where
     go : (t : Bool) → leb (end r) lo ≡ t → (hi ≤ r .base .0) ⊎ (r .base .0 < hi) → (Vacant lo hi rs → clearTo hi (drop (endingBy lo rs) rs) ≡ true)
@@ -301,8 +300,7 @@ vacant-clear lo hi m (next {r = r} {rs = rs} f w) h = go (leb (end r) lo) refl (
     go false e (inr k) ih =
         let a = max lo (r .base .0) in
         let x : Present (r .tag) ≡ Absent = sym (at-here r rs a (omega arith) (omega (arith, leb-false (end r) lo e, f .some))) ∙ h a (omega arith) (omega (arith, leb-false (end r) lo e)) in
-        let z : _≡_ {A = ℕ} 0 1 = cc in
-        absurd (omega arith)
+        absurd (zero-not-one cc)
 
 -- the place of such a range in a table
 pub vacant-gap : (l : List ℕ) (n : ℕ) → Table l n → (lo hi i : ℕ) → lo < hi → Vacant lo hi (readRegions n l) → i ≡ endingBy lo (readRegions n l)

@@ -31,20 +31,20 @@ use Rattle.change.specs.declared.inplace.Met.{Met}
 use Rattle.change.specs.declared.inplace.Tried.{Tried}
 use Rattle.change.specs.declared.inplace.Tried.the-variants.{Done, More}
 use Rattle.change.specs.Steps.{startingBy, AllTagged, Uniform, Meets, Stored, TriedAs, storedAnswer, storedBytes}
-use Rattle.records.specs.Steps.{put, AllLight, Table, Whole}
-use Rattle.lists.specs.Steps.{finished, Holds}
+use Rattle.records.specs.Steps.{put, AllFlagsBounded, Table, Whole}
+use Rattle.lists.specs.Steps.{finished, HoldsList}
 use Rattle.records.proofs.Placing.{ending-reach}
 use Rattle.lists.proofs.Pushing.{holds-count, holds-list, holds-full}
-use Rattle.lists.proofs.Walking.{light-drop}
+use Rattle.lists.proofs.Walking.{flags-bounded-drop}
 use Rattle.change.proofs.Meeting.{starting-rest, starting-above, ending-starting, ending-ends, ends-take, starting-begins, begins-le}
 use Rattle.change.proofs.Splicing.{mid, apart, mid-read, part-room, part-rises, split-rises, mid-rises}
 
 -- ---- parts of a list
 
-light-take : (i : ℕ) (xs : List Region) → AllLight xs → AllLight (take i xs)
-light-take zero xs h = tt
-light-take (suc i) [] h = tt
-light-take (suc i) (r ∷ rs) h = (h .0, light-take i rs (h .1))
+flags-bounded-take : (i : ℕ) (xs : List Region) → AllFlagsBounded xs → AllFlagsBounded (take i xs)
+flags-bounded-take zero xs h = tt
+flags-bounded-take (suc i) [] h = tt
+flags-bounded-take (suc i) (r ∷ rs) h = (h .0, flags-bounded-take i rs (h .1))
 
 -- ---- few are left
 
@@ -108,7 +108,7 @@ module _ (t : List ℕ) (y : Tally) (d : Edit) (m : Met) (w : Meets t y d m) whe
       record {
         room = part-room t (y .count) (m .first) (m .stop) met-order met-most (w .whole .table .room);
         rising = part-rises t (y .count) (m .first) (m .stop) met-order met-most (w .whole .table .room) (w .whole .table .rising);
-        light = rw met-read (light-take (m .stop - m .first) (drop (m .first) (readRegions (y .count) t)) (light-drop (m .first) (readRegions (y .count) t) (w .whole .table .light)));
+        flags-bounded = rw met-read (flags-bounded-take (m .stop - m .first) (drop (m .first) (readRegions (y .count) t)) (flags-bounded-drop (m .first) (readRegions (y .count) t) (w .whole .table .flags-bounded)));
       }
 
   met-ends : Ends (d .lo .0 - 1) met
@@ -149,7 +149,7 @@ module _ (t : List ℕ) (y : Tally) (d : Edit) (m : Met) (w : Meets t y d m) whe
       ∙ update-apart k (d .lo .0) (d .hi .0) top (take (m .first) x) met (drop (m .stop) x) (w .changeable .edit .low) (w .changeable .edit .high) c (rw (w .from) p) (rw (w .to) q)
       ∙ sym (ap (λ (z : List Region). take (m .first) x ++ (finished d z ++ drop (m .stop) x)) met-read)
 
-  module _ (cap : ℕ) (s : List ℕ) (p : Pushed) (c : Holds s cap new p) where
+  module _ (cap : ℕ) (s : List ℕ) (p : Pushed) (c : HoldsList s cap new p) where
     full : p ≡ Full → (length t ≤ 3072) ⊎ Uniform (d .change) (readRegions (y .count) t) → 128 ≤ cap → Stored t t (finished d (readRegions (y .count) t)) NoRoom
     unfolding put storedAnswer storedBytes
     full f (inr u) h = absurd (omega (arith, new-few u, holds-full s cap new p c f))

@@ -21,7 +21,7 @@ use Rattle.regions.specs.declared.Region.{Region}
 use Rattle.regions.specs.declared.State.{State}
 use Rattle.regions.specs.declared.State.the-variants.{Absent, Present}
 use Rattle.regions.specs.Meaning.{region, end, at, total, top, top-is}
-use Rattle.regions.specs.Trim.{roundEach}
+use Rattle.regions.specs.Trim.{roundOne, roundEach}
 use Rattle.regions.specs.Lists.{rises}
 use Rattle.regions.proofs.Trim.{round-rises}
 use Rattle.regions.specs.Bytes.{readRegion, regionBytes, readRegions, tableBytes}
@@ -31,9 +31,9 @@ use Rattle.regions.proofs.Records.{Fit, region-bytes-length, put-here, put-befo
 use Rattle.change.specs.declared.trim.Rounded.{Rounded}
 use Rattle.change.specs.declared.trim.Rounded.the-variants.{Left, Nothing}
 use Rattle.records.specs.declared.table.Tally.{Tally}
-use Rattle.records.specs.Checks.{zeros}
+use Rattle.records.specs.Checks.{allZeros}
 use Rattle.records.specs.Steps.{Table, Whole, put}
-use Rattle.change.specs.Steps.{Trimmed, rounded, leftOf}
+use Rattle.change.specs.Steps.{Trimmed, leftOf}
 use Rattle.records.proofs.Moving.{drop-sets}
 use Rattle.records.proofs.Replacing.{take-read}
 
@@ -53,15 +53,14 @@ record-high l n i r t h e = rw e (high-at i n l 0 Absent (rises-Rises 0 Absent t
 -- ---- one record
 
 module _ (r : Region) (k : Size) (pow : powerOfTwo (k .0) ≡ true) (h : end r ≤ top) (x : CheckedAddress) (ex : x ≡ address (up (r .base .0) (k .0))) where
-  pub round-past : x ≡ Outside → Nothing ≡ rounded (k .0) r
-  unfolding rounded
+  pub round-past : x ≡ Outside → leftOf Nothing ≡ roundOne (k .0) r
   round-past o =
       let l : down (end r) (k .0) ≤ up (r .base .0) (k .0) =
       omega (arith, address-outside (up (r .base .0) (k .0)) x ex o, down-le (end r) (k .0) (power-some (k .0) pow), top-is) in
       rw (le-ltb (up (r .base .0) (k .0)) (down (end r) (k .0)) l)
 
   module _ (b : Address) (eb : x ≡ At b) (y : CheckedAddress) (ey : y ≡ address (end r)) where
-    pub round-end : y ≡ Outside → Nothing ≡ rounded (k .0) r
+    pub round-end : y ≡ Outside → leftOf Nothing ≡ roundOne (k .0) r
     round-end o = absurd (omega (arith, address-outside (end r) y ey o, top-is))
 
     module _ (e : Address) (ee : y ≡ At e) (p : Address) (ep : p .0 ≡ down (e .0) (k .0)) where
@@ -71,25 +70,13 @@ module _ (r : Region) (k : Size) (pow : powerOfTwo (k .0) ≡ true) (h : end r �
       past-is : p .0 ≡ down (end r) (k .0)
       past-is = ep ∙ ap (λ (n : ℕ). down n (k .0)) (address-at (end r) y e ey ee .0)
 
-      pub round-none : p .0 ≤ b .0 → Nothing ≡ rounded (k .0) r
-      unfolding rounded
+      pub round-none : p .0 ≤ b .0 → leftOf Nothing ≡ roundOne (k .0) r
       round-none l = rw (← base-is, ← past-is, le-ltb (b .0) (p .0) l)
 
-      pub round-left : (s : Size) → s .0 ≡ p .0 - b .0 → b .0 < p .0 → Left (record { base = b; size = s; tag = r .tag }) ≡ rounded (k .0) r
-      unfolding rounded
+      pub round-left : (s : Size) → s .0 ≡ p .0 - b .0 → b .0 < p .0 → leftOf (Left (record { base = b; size = s; tag = r .tag })) ≡ roundOne (k .0) r
       round-left s es l = rw (← base-is, ← past-is, lt-ltb (b .0) (p .0) l, ← es)
 
 -- ---- the list
-
--- what trim makes of a list, by what is left of its first region
-each : (k : ℕ) (r : Region) (rs : List Region) → roundEach k (r ∷ rs) ≡ leftOf (rounded k r) ++ roundEach k rs
-unfolding roundEach rounded
-each k r rs = go (ltb (up (r .base .0) k) (down (end r) k))
-  where
-    go : (b : Bool) → cond b (region (up (r .base .0) k) (down (end r) k - up (r .base .0) k) (r .tag) ∷ roundEach k rs) (roundEach k rs)
-        ≡ leftOf (cond b (Left (region (up (r .base .0) k) (down (end r) k - up (r .base .0) k) (r .tag))) Nothing) ++ roundEach k rs
-    go true = refl
-    go false = refl
 
 -- appended to the n records of o
 module _ (o : List ℕ) (n : ℕ) (x : Rounded) where
@@ -126,20 +113,21 @@ module _ (k : ℕ) (l : List ℕ) (n : ℕ) where
     unfolding roundEach
     round-done h = sym (append-nil (readRegions m o)) ∙ rw (read-regions-end i n (drop (24 * i) l) h) at inv
 
-    module _ (r : Region) (h : i < n) (e : r ≡ readRegion (drop (24 * i) l)) (x : Rounded) (q : x ≡ rounded k r) where
+    module _ (r : Region) (h : i < n) (e : r ≡ readRegion (drop (24 * i) l)) (x : Rounded) (q : leftOf x ≡ roundOne k r) where
       rest : readRegions (n - i) (drop (24 * i) l) ≡ r ∷ readRegions (n - (i + 1)) (drop (24 * (i + 1)) l)
       rest = rw e (read-regions-rest i n l h)
 
       pub round-next : (o′ : List ℕ) (m′ : ℕ) → readRegions m′ o′ ≡ readRegions m o ++ leftOf x
           → readRegions m′ o′ ++ roundEach k (readRegions (n - (i + 1)) (drop (24 * (i + 1)) l)) ≡ roundEach k (readRegions n l)
-      round-next o′ m′ p = rw (p, q, append-assoc, ← each k r (readRegions (n - (i + 1)) (drop (24 * (i + 1)) l)), ← rest) inv
+      unfolding roundEach
+      round-next o′ m′ p = rw (p, q, append-assoc) (rw rest at inv)
 
 -- the same where what is left stands over the first records
 module _ (k : ℕ) (t₀ : List ℕ) (n : ℕ) (t : List ℕ) (i : ℕ) (d : drop (24 * i) t ≡ drop (24 * i) t₀) (r : Region) (h : i < n) (e : r ≡ readRegion (drop (24 * i) t)) where
   pub over-high : Table t₀ n → end r ≤ top
   over-high w = record-high t₀ n i r w h (e ∙ ap readRegion d)
 
-  pub over-next : (m : ℕ) → readRegions m t ++ roundEach k (readRegions (n - i) (drop (24 * i) t₀)) ≡ roundEach k (readRegions n t₀) → (x : Rounded) → x ≡ rounded k r
+  pub over-next : (m : ℕ) → readRegions m t ++ roundEach k (readRegions (n - i) (drop (24 * i) t₀)) ≡ roundEach k (readRegions n t₀) → (x : Rounded) → leftOf x ≡ roundOne k r
       → (t′ : List ℕ) (m′ : ℕ) → readRegions m′ t′ ≡ readRegions m t ++ leftOf x
       → readRegions m′ t′ ++ roundEach k (readRegions (n - (i + 1)) (drop (24 * (i + 1)) t₀)) ≡ roundEach k (readRegions n t₀)
   over-next m inv x q t′ m′ p = round-next k t₀ n t m i inv r h (e ∙ ap readRegion d) x q t′ m′ p
@@ -154,7 +142,7 @@ module _ (t : List ℕ) (y : Tally) (w : Whole t y) (k : ℕ) (pow : powerOfTwo 
   pub left-rises : rises 0 Absent top (readRegions n u) ≡ true
   left-rises = rw p (Rises-rises (round-rises k (power-some k pow) (rises-Rises 0 Absent top (readRegions (y .count) t) (w .table .rising))))
 
-  pub left-zeros : zeros (drop (24 * y .count) u) ≡ true
+  pub left-zeros : allZeros (drop (24 * y .count) u) ≡ true
   left-zeros = rw q (w .rest)
 
   pub trim-told : (s : Size) → s .0 ≡ total (at (readRegions n u)) top → length u ≡ length t → (o e : List ℕ)

@@ -31,13 +31,7 @@ use Rattle.change.specs.declared.trim.Rounded.the-variants.{Left, Nothin
 use Rattle.records.specs.Steps.{endingBy, put, Whole}
 use Rattle.lists.specs.Steps.{Editable}
 
--- what trim leaves of a region
-unfoldable pub rounded : ℕ → Region → Rounded
-rounded align r =
-    let base = up (r .base .0) align in
-    let past = down (end r) align in
-    cond (ltb base past) (Left (region base (past - base) (r .tag))) Nothing
-
+-- what is left of a record, as a list
 abbrev pub leftOf : Rounded → List Region
 leftOf (Left r) = r ∷ []
 leftOf Nothing = []

@@ -15,10 +15,10 @@ ghost use mathlib.Core.List.{_++_};
 ghost use lib.ListN.{length, drop};
 ghost use Rattle.regions.specs.Meaning.{end as endOf, top};
 ghost use Rattle.address.specs.Numbers.{powerOfTwo};
-ghost use Rattle.regions.specs.Trim.{roundEach};
+ghost use Rattle.regions.specs.Trim.{roundOne, roundEach};
 ghost use Rattle.regions.specs.Bytes.{readRegions};
 ghost use Rattle.records.specs.Steps.{Table, Whole};
-ghost use Rattle.change.specs.Steps.{Trimmed, rounded, leftOf};
+ghost use Rattle.change.specs.Steps.{Trimmed, leftOf};
 
 // What is left of a record.
 pub enum Rounded {
@@ -28,7 +28,7 @@ pub enum Rounded {
 
 fn round_region(r: Region, align: Size) -> Rounded
     requires { ⌜ (powerOfTwo (align .0) ≡ true) × (endOf r ≤ top) ⌝ }
-    ensures { λ x. ⌜ x ≡ rounded (align .0) r ⌝ }
+    ensures { λ x. ⌜ leftOf x ≡ roundOne (align .0) r ⌝ }
 {
     let start = r.base;
     let tag = r.tag;

@@ -9,7 +9,7 @@ use lib.ListN.{drop}
 use borrow.Author.Tests.{eq-eqb, ne-eqb, eqb-true}
 use Rattle.regions.proofs.Items.{items-rest, items-end}
 use Rattle.block.specs.Block.{current}
-use Rattle.tables.specs.Commands.{Outcome, outcome, done, Command, commandOutcome, trim}
+use Rattle.tables.specs.Commands.{Outcome, outcome, doneWith, Command, commandOutcome, trim}
 use Rattle.intake.specs.declared.e820.Entry.{Entry}
 use Rattle.intake.specs.E820.{readEntry, readEntries, entryCommands, commands, entrySteps}
 use Rattle.intake.specs.Turns.{Step, steps, inTurn}
@@ -42,7 +42,7 @@ pub turn-last : (s : Step) (b : List ℕ) → inTurn (s ∷ []) b ≡ s b
 unfolding inTurn
 turn-last s b = go (s b) (eqb (s b .number) 0) refl
   where
-    go : (o : Outcome) (t : Bool) → eqb (o .number) 0 ≡ t → cond t (done (o .block)) o ≡ o
+    go : (o : Outcome) (t : Bool) → eqb (o .number) 0 ≡ t → cond t (doneWith (o .block)) o ≡ o
     go o true e = let p = eqb-true (o .number) 0 e in λ i. record { number = sym p i; block = o .block }
     go o false e = refl
 

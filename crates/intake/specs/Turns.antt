@@ -4,7 +4,7 @@ use mathlib.Core.Bool.{cond}
 use mathlib.Core.List.{List, [], _∷_, map}
 use lib.Dec.{eqb}
 use Rattle.block.specs.declared.Layout.{Layout}
-use Rattle.tables.specs.Commands.{Outcome, done, unless, Command, commandOutcome}
+use Rattle.tables.specs.Commands.{Outcome, doneWith, unless, Command, commandOutcome}
 
 -- a command with its numbers: what it answers and leaves of a block
 abbrev pub Step : Type 0
@@ -16,7 +16,7 @@ steps L cs = map (commandOutcome L) cs
 
 -- each on the block that the one before it left; the first refusal ends it
 unfoldable pub inTurn : List Step → Step
-inTurn [] b = done b
+inTurn [] b = doneWith b
 inTurn (s ∷ ss) b = cond (eqb (s b .number) 0) (inTurn ss (s b .block)) (s b)
 
 -- the same, but a refusal leaves the block as it was before the first

@@ -8,6 +8,7 @@ use lib.Dec.{leb}
 use lib.ListN.{length, drop, length-append}
 use lib.Seq.{sets}
 use borrow.Author.Tests.{le-leb, lt-leb, leb-true, leb-false}
+use Rattle.address.proofs.Tests.{zero-not-one}
 use Rattle.address.specs.declared.Size.{Size}
 use Rattle.address.specs.declared.CheckedSize.{CheckedSize}
 use Rattle.address.specs.Numbers.{size}
@@ -25,20 +26,20 @@ use Rattle.regions.proofs.Records.{Fit, put-here, put-before, read-regions-snoc
 use Rattle.regions.proofs.RoundTrip.{join-snoc, push-absent, push-present}
 use Rattle.lists.specs.declared.Pushed.{Pushed}
 use Rattle.lists.specs.declared.Pushed.the-variants.{Count, Full}
-use Rattle.lists.specs.Steps.{fitsIn, HoldsAfter, Holds}
+use Rattle.lists.specs.Steps.{fitsIn, HoldsAfter, HoldsList}
 use Rattle.address.specs.declared.CheckedSize.the-variants as Size
 
 -- ---- what an answer tells
 
 answer-count : (b : Bool) (m k : ℕ) → Count m ≡ cond b (Count k) Full → (b ≡ true) × (m ≡ k)
 answer-count true m k e = (refl, cc)
-answer-count false m k e = absurd (let z : _≡_ {A = ℕ} 0 1 = cc in omega arith)
+answer-count false m k e = absurd (zero-not-one cc)
 
 answer-full : (b : Bool) (k : ℕ) → Full ≡ cond b (Count k) Full → b ≡ false
-answer-full true k e = absurd (let z : _≡_ {A = ℕ} 0 1 = cc in omega arith)
+answer-full true k e = absurd (zero-not-one cc)
 answer-full false k e = refl
 
-module _ (l : List ℕ) (cap : ℕ) (xs : List Region) (a : Pushed) (p : Holds l cap xs a) where
+module _ (l : List ℕ) (cap : ℕ) (xs : List Region) (a : Pushed) (p : HoldsList l cap xs a) where
   pub holds-count : (m : ℕ) → a ≡ Count m → (m ≤ cap) × (m ≡ length xs)
   unfolding fitsIn
   holds-count m e =
@@ -54,11 +55,11 @@ module _ (l : List ℕ) (cap : ℕ) (xs : List Region) (a : Pushed) (p : Holds l
 
 -- ---- what makes an answer right
 
-pub full-holds : (l : List ℕ) (cap : ℕ) (xs : List Region) → cap < length xs → Holds l cap xs Full
+pub full-holds : (l : List ℕ) (cap : ℕ) (xs : List Region) → cap < length xs → HoldsList l cap xs Full
 unfolding fitsIn
 full-holds l cap xs h = record { answer = rw (lt-leb (length xs) cap h); after = tt }
 
-count-holds : (l : List ℕ) (cap m : ℕ) (xs : List Region) → m ≤ cap → readRegions m l ≡ xs → Holds l cap xs (Count m)
+count-holds : (l : List ℕ) (cap m : ℕ) (xs : List Region) → m ≤ cap → readRegions m l ≡ xs → HoldsList l cap xs (Count m)
 unfolding fitsIn
 count-holds l cap m xs h e =
     let n : length xs ≡ m = ap (length {A = Region}) (sym e) ∙ read-regions-length m l in
@@ -67,13 +68,13 @@ count-holds l cap m xs h e =
 -- ---- append
 
 module _ (l : List ℕ) (n cap : ℕ) (r : Region) where
-  pub append-full : n ≡ cap → Holds l cap (readRegions n l ++ (r ∷ [])) Full
+  pub append-full : n ≡ cap → HoldsList l cap (readRegions n l ++ (r ∷ [])) Full
   append-full e =
       let m : length (readRegions n l ++ (r ∷ [])) ≡ n + 1 = length-append (readRegions n l) (r ∷ []) ∙ rw read-regions-length in
       full-holds l cap (readRegions n l ++ (r ∷ [])) (omega arith)
 
   pub append-done : (l′ : List ℕ) → n ≤ cap → (n ≡ cap → ⊥) → 24 * cap ≤ length l → Fit r → l′ ≡ sets l (24 * n) (regionBytes r)
-      → Holds l′ cap (readRegions n l ++ (r ∷ [])) (Count (n + 1))
+      → HoldsList l′ cap (readRegions n l ++ (r ∷ [])) (Count (n + 1))
   append-done l′ k e s f q =
       let a : 24 * n + 24 ≤ length l = omega arith in
       let z : readRegions (n + 1) l′ ≡ readRegions n l ++ (r ∷ []) =
@@ -95,8 +96,8 @@ module _ (p r : Region) (j : joins p (r .base .0) (r .tag) ≡ true) (h : end r 
 -- ---- push
 
 module _ (l l′ : List ℕ) (n cap : ℕ) (r : Region) where
-  pub push-none : (a : Pushed) → n ≡ 0 → Holds l′ cap (readRegions n l ++ (r ∷ [])) a
-      → Holds l′ cap (join (readRegions n l) (r .base .0) (r .size .0) (r .tag)) a
+  pub push-none : (a : Pushed) → n ≡ 0 → HoldsList l′ cap (readRegions n l ++ (r ∷ [])) a
+      → HoldsList l′ cap (join (readRegions n l) (r .base .0) (r .size .0) (r .tag)) a
   unfolding join readRegions
   push-none a e h = rw e (rw e at h)
 
@@ -111,15 +112,15 @@ module _ (l l′ : List ℕ) (n cap : ℕ) (r : Region) where
     unfolding join
     grown t e = rw (split, join-snoc, ← q, e)
 
-    pub push-apart : (a : Pushed) → b ≡ false → Holds l′ cap (readRegions n l ++ (r ∷ [])) a
-        → Holds l′ cap (join (readRegions n l) (r .base .0) (r .size .0) (r .tag)) a
+    pub push-apart : (a : Pushed) → b ≡ false → HoldsList l′ cap (readRegions n l ++ (r ∷ [])) a
+        → HoldsList l′ cap (join (readRegions n l) (r .base .0) (r .size .0) (r .tag)) a
     push-apart a t h =
         let e : join (readRegions n l) (r .base .0) (r .size .0) (r .tag) ≡ readRegions n l ++ (r ∷ []) =
         grown false t ∙ rw (split, append-assoc) in
         rw e h
 
     pub push-grow : b ≡ true → n ≤ cap → 24 * cap ≤ length l → (g : Region) → g ≡ region (p .base .0) (p .size .0 + r .size .0) (r .tag) → Fit g
-        → l′ ≡ sets l (24 * (n - 1)) (regionBytes g) → Holds l′ cap (join (readRegions n l) (r .base .0) (r .size .0) (r .tag)) (Count n)
+        → l′ ≡ sets l (24 * (n - 1)) (regionBytes g) → HoldsList l′ cap (join (readRegions n l) (r .base .0) (r .size .0) (r .tag)) (Count n)
     push-grow t k o g y f z =
         let a : 24 * (n - 1) + 24 ≤ length l = omega arith in
         let m : n ≡ n - 1 + 1 = omega arith in
@@ -134,29 +135,29 @@ module _ (l l′ : List ℕ) (n cap : ℕ) (r : Region) where
 -- ---- one stretch of one state
 
 module _ (l : List ℕ) (n cap c e : ℕ) where
-  pub piece-absent : (v : State) → v ≡ Absent → n ≤ cap → Holds l cap (push (readRegions n l) c (e - c) v) (Count n)
+  pub piece-absent : (v : State) → v ≡ Absent → n ≤ cap → HoldsList l cap (push (readRegions n l) c (e - c) v) (Count n)
   unfolding push
   piece-absent v a h = rw a (count-holds l cap n (readRegions n l) h refl)
 
-  pub piece-empty : (v : State) (t : Tag) → v ≡ Present t → c ≡ e → n ≤ cap → Holds l cap (push (readRegions n l) c (e - c) v) (Count n)
+  pub piece-empty : (v : State) (t : Tag) → v ≡ Present t → c ≡ e → n ≤ cap → HoldsList l cap (push (readRegions n l) c (e - c) v) (Count n)
   unfolding push
   piece-empty v t a q h =
       let z : e - c ≡ 0 = omega arith in
       rw (a, z) (count-holds l cap n (readRegions n l) h refl)
 
   pub piece-some : (v : State) (t : Tag) (s : ℕ) (l′ : List ℕ) (a : Pushed) → v ≡ Present t → s ≡ e - c → c ≤ e → (c ≡ e → ⊥)
-      → Holds l′ cap (join (readRegions n l) c s t) a → Holds l′ cap (push (readRegions n l) c (e - c) v) a
+      → HoldsList l′ cap (join (readRegions n l) c s t) a → HoldsList l′ cap (push (readRegions n l) c (e - c) v) a
   piece-some v t s l′ a q z h d p = rw (q, ← z, push-present (readRegions n l) c s t (omega arith)) p
 
 -- ---- addresses that no record has: only what the change makes of them inside the range is put behind
 
 module _ (k : State → State) (lo hi from to : ℕ) (v : State) (ev : v ≡ k Absent) where
-  pub gap-kept : v ≡ Absent → (l : List ℕ) (n cap : ℕ) → n ≤ cap → Holds l cap (stretch k lo hi (readRegions n l) from to Absent) (Count n)
+  pub gap-kept : v ≡ Absent → (l : List ℕ) (n cap : ℕ) → n ≤ cap → HoldsList l cap (stretch k lo hi (readRegions n l) from to Absent) (Count n)
   unfolding stretch
   gap-kept e l n cap h = rw (← ev, e, push-absent, push-absent, push-absent) (count-holds l cap n (readRegions n l) h refl)
 
   pub gap-holds : (t : Tag) → v ≡ Present t → (acc : List Region) (x y b p : ℕ) → x ≡ min lo to → b ≡ max from x → y ≡ min hi to → p ≡ max from y
-      → (l : List ℕ) (cap : ℕ) (a : Pushed) → Holds l cap (push acc b (p - b) (Present t)) a → Holds l cap (stretch k lo hi acc from to Absent) a
+      → (l : List ℕ) (cap : ℕ) (a : Pushed) → HoldsList l cap (push acc b (p - b) (Present t)) a → HoldsList l cap (stretch k lo hi acc from to Absent) a
   unfolding stretch
   gap-holds t e acc x y b p ex eb ey ep l cap a h = rw (← ev, e, push-absent, push-absent) (rw (eb, ex, ep, ey) at h)
 
@@ -168,7 +169,7 @@ module _ (k : State → State) (lo hi c e : ℕ) (v : State) (acc : List Region)
   unfolding stretch
   pieces = rw (eb, ex, ep, ey)
 
-  pub first-full : (l : List ℕ) (a : Pushed) → Holds l cap (push acc c (b - c) v) a → a ≡ Full → Holds l cap (stretch k lo hi acc c e v) Full
+  pub first-full : (l : List ℕ) (a : Pushed) → HoldsList l cap (push acc c (b - c) v) a → a ≡ Full → HoldsList l cap (stretch k lo hi acc c e v) Full
   first-full l a h f =
       let one : List Region = push acc c (b - c) v in
       let two : List Region = push one b (p - b) (k v) in
@@ -176,8 +177,8 @@ module _ (k : State → State) (lo hi c e : ℕ) (v : State) (acc : List Region)
       rw pieces (omega (arith, holds-full l cap one a h f, push-longer one b (p - b) (k v), push-longer two p (e - p) v)) in
       full-holds l cap (stretch k lo hi acc c e v) z
 
-  module _ (l : List ℕ) (a : Pushed) (m : ℕ) (h : Holds l cap (push acc c (b - c) v) a) (f : a ≡ Count m) (u : State) (q : u ≡ k v) where
-    pub second-full : (l′ : List ℕ) (a′ : Pushed) → Holds l′ cap (push (readRegions m l) b (p - b) u) a′ → a′ ≡ Full → Holds l′ cap (stretch k lo hi acc c e v) Full
+  module _ (l : List ℕ) (a : Pushed) (m : ℕ) (h : HoldsList l cap (push acc c (b - c) v) a) (f : a ≡ Count m) (u : State) (q : u ≡ k v) where
+    pub second-full : (l′ : List ℕ) (a′ : Pushed) → HoldsList l′ cap (push (readRegions m l) b (p - b) u) a′ → a′ ≡ Full → HoldsList l′ cap (stretch k lo hi acc c e v) Full
     second-full l′ a′ h′ f′ =
         let one : List Region = push acc c (b - c) v in
         let two : List Region = push one b (p - b) (k v) in
@@ -185,8 +186,8 @@ module _ (k : State → State) (lo hi c e : ℕ) (v : State) (acc : List Region)
         let z : cap < length (stretch k lo hi acc c e v) = rw pieces (omega (arith, push-longer two p (e - p) v)) in
         full-holds l′ cap (stretch k lo hi acc c e v) z
 
-    pub third-holds : (l′ : List ℕ) (a′ : Pushed) (m′ : ℕ) → Holds l′ cap (push (readRegions m l) b (p - b) u) a′ → a′ ≡ Count m′
-        → (l″ : List ℕ) (a″ : Pushed) → Holds l″ cap (push (readRegions m′ l′) p (e - p) v) a″ → Holds l″ cap (stretch k lo hi acc c e v) a″
+    pub third-holds : (l′ : List ℕ) (a′ : Pushed) (m′ : ℕ) → HoldsList l′ cap (push (readRegions m l) b (p - b) u) a′ → a′ ≡ Count m′
+        → (l″ : List ℕ) (a″ : Pushed) → HoldsList l″ cap (push (readRegions m′ l′) p (e - p) v) a″ → HoldsList l″ cap (stretch k lo hi acc c e v) a″
     third-holds l′ a′ m′ h′ f′ l″ a″ h″ =
         let one : readRegions m l ≡ push acc c (b - c) v = holds-list l cap (push acc c (b - c) v) a h m f in
         let two : readRegions m′ l′ ≡ push (push acc c (b - c) v) b (p - b) (k v) =

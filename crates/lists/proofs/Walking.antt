@@ -19,17 +19,17 @@ use Rattle.regions.specs.Lists.{rises}
 use Rattle.regions.specs.Changes.{after}
 use Rattle.regions.specs.Bytes.{readRegion, readRegions}
 use Rattle.regions.specs.Steps.{stretch}
-use Rattle.regions.proofs.Rises.{Rises, done, next, Canonical, rises-Rises}
+use Rattle.regions.proofs.Rises.{Rises, ended, next, Canonical, rises-Rises}
 use Rattle.regions.proofs.Push.{push-none}
 use Rattle.regions.proofs.Count.{push-longer}
 use Rattle.regions.proofs.RoundTrip.{rises-end}
-use Rattle.regions.proofs.Twins.{walk, update}
+use Rattle.regions.proofs.Update.{walk, update}
 use Rattle.regions.proofs.Update.{update-shortest}
 use Rattle.regions.proofs.Records.{read-regions-rest, read-regions-end}
 use Rattle.lists.specs.declared.Pushed.{Pushed}
 use Rattle.lists.specs.declared.Pushed.the-variants.{Count, Full}
-use Rattle.lists.specs.Steps.{Holds}
-use Rattle.records.specs.Steps.{AllLight}
+use Rattle.lists.specs.Steps.{HoldsList}
+use Rattle.records.specs.Steps.{AllFlagsBounded}
 use Rattle.lists.proofs.Pushing.{holds-list, holds-full, full-holds}
 
 module _ (k : State → State) (lo hi : ℕ) where
@@ -64,14 +64,14 @@ module _ (k : State → State) (lo hi : ℕ) where
 
   -- a record that lies wholly inside the range
   pub record-inside : (acc : List Region) (cap : ℕ) (r : Region) (o : Address) → o .0 ≡ end r → lo ≤ r .base .0 → o .0 ≤ hi → (b : Address) → b ≡ r .base → (v : State) → v ≡ k (Present (r .tag)) → (l : List ℕ) (a : Pushed)
-      → Holds l cap (push acc (b .0) (o .0 - b .0) v) a → Holds l cap (stretch k lo hi acc (r .base .0) (end r) (Present (r .tag))) a
+      → HoldsList l cap (push acc (b .0) (o .0 - b .0) v) a → HoldsList l cap (stretch k lo hi acc (r .base .0) (end r) (Present (r .tag))) a
   record-inside acc cap r o eo i j b eb v ev l a p =
       let g : b .0 ≡ r .base .0 = ap (λ (x : Address). x .0) eb in
       rw (stretch-inside acc (r .base .0) (end r) (Present (r .tag)) i (omega arith) (omega arith)) (rw (g, eo, ev) at p)
 
   -- any other
   pub record-across : (acc : List Region) (cap : ℕ) (r : Region) (o : Address) → o .0 ≡ end r → (b : Address) → b ≡ r .base → (l : List ℕ) (a : Pushed)
-      → Holds l cap (stretch k lo hi acc (b .0) (o .0) (Present (r .tag))) a → Holds l cap (stretch k lo hi acc (r .base .0) (end r) (Present (r .tag))) a
+      → HoldsList l cap (stretch k lo hi acc (b .0) (o .0) (Present (r .tag))) a → HoldsList l cap (stretch k lo hi acc (r .base .0) (end r) (Present (r .tag))) a
   record-across acc cap r o eo b eb l a p = let g : b .0 ≡ r .base .0 = ap (λ (x : Address). x .0) eb in rw (g, eo) at p
 
 -- ---- what lies ahead of the walk
@@ -81,14 +81,14 @@ abbrev pub Ahead : ℕ → List Region → Type 0
 Ahead c [] = Unit {0}
 Ahead c (r ∷ rs) = (c ≤ r .base .0) × ((end r ≤ top) × ((r .tag .flags ≤ 7) × Ahead (end r) rs))
 
-rises-ahead : {c : ℕ} {v : State} {xs : List Region} → Rises c v top xs → AllLight xs → Ahead c xs
-rises-ahead (done l) a = tt
+rises-ahead : {c : ℕ} {v : State} {xs : List Region} → Rises c v top xs → AllFlagsBounded xs → Ahead c xs
+rises-ahead (ended l) a = tt
 rises-ahead (next f w) a = (f .low, (rises-end w, (a .0, rises-ahead w (a .1))))
 
-pub light-drop : (i : ℕ) (xs : List Region) → AllLight xs → AllLight (drop i xs)
-light-drop zero xs a = a
-light-drop (suc i) [] a = tt
-light-drop (suc i) (r ∷ rs) a = light-drop i rs (a .1)
+pub flags-bounded-drop : (i : ℕ) (xs : List Region) → AllFlagsBounded xs → AllFlagsBounded (drop i xs)
+flags-bounded-drop zero xs a = a
+flags-bounded-drop (suc i) [] a = tt
+flags-bounded-drop (suc i) (r ∷ rs) a = flags-bounded-drop i rs (a .1)
 
 -- ---- the walk begins with no record
 
@@ -100,7 +100,7 @@ module _ (k : State → State) (lo hi : ℕ) (l : List ℕ) (n : ℕ) (w : lo �
   unfolding readRegions update
   walk-start o = rw sub-zero (sym (update-shortest k lo hi top (readRegions n l) w b canonical))
 
-  pub ahead-start : AllLight (readRegions n l) → Ahead 0 (readRegions (n - 0) (drop (24 * 0) l))
+  pub ahead-start : AllFlagsBounded (readRegions n l) → Ahead 0 (readRegions (n - 0) (drop (24 * 0) l))
   ahead-start a = rw sub-zero (rises-ahead canonical a)
 
 -- ---- the walk over a table's bytes, at record i of n
@@ -108,8 +108,8 @@ module _ (k : State → State) (lo hi : ℕ) (l : List ℕ) (n : ℕ) (w : lo �
 module _ (k : State → State) (lo hi : ℕ) (whole : List Region) (l : List ℕ) (n : ℕ) (o : List ℕ) (m : ℕ) (c : Address) (i : ℕ)
     (inv : whole ≡ walk k lo hi (readRegions m o) (c .0) (readRegions (n - i) (drop (24 * i) l))) (ahead : Ahead (c .0) (readRegions (n - i) (drop (24 * i) l))) where
   -- no record is left: the gap up to the end of the range
-  pub walk-end : n ≤ i → (e : ℕ) → e ≡ max (c .0) hi → (cap : ℕ) (o′ : List ℕ) (a : Pushed) → Holds o′ cap (stretch k lo hi (readRegions m o) (c .0) e Absent) a
-      → Holds o′ cap whole a
+  pub walk-end : n ≤ i → (e : ℕ) → e ≡ max (c .0) hi → (cap : ℕ) (o′ : List ℕ) (a : Pushed) → HoldsList o′ cap (stretch k lo hi (readRegions m o) (c .0) e Absent) a
+      → HoldsList o′ cap whole a
   unfolding walk
   walk-end h e q cap o′ a p = rw (inv, read-regions-end i n (drop (24 * i) l) h, ← q) p
 
@@ -131,8 +131,8 @@ module _ (k : State → State) (lo hi : ℕ) (whole : List Region) (l : List ℕ
     walk-high : end r ≤ top
     walk-high = next-ahead .1 .0
 
-    pub walk-light : r .tag .flags ≤ 7
-    walk-light = next-ahead .1 .1 .0
+    pub walk-flags-bounded : r .tag .flags ≤ 7
+    walk-flags-bounded = next-ahead .1 .1 .0
 
     -- the gap before the record
     gap : List Region
@@ -147,20 +147,20 @@ module _ (k : State → State) (lo hi : ℕ) (whole : List Region) (l : List ℕ
     whole-longer = rw step (walk-longer k lo hi both (end r) (readRegions (n - (i + 1)) (drop (24 * (i + 1)) l)))
 
     module _ (x : CheckedAddress) (q : x ≡ address (end r)) where
-      pub walk-past : x ≡ Outside → (cap : ℕ) → Holds o cap whole Full
+      pub walk-past : x ≡ Outside → (cap : ℕ) → HoldsList o cap whole Full
       walk-past f cap = absurd (omega (arith, address-outside (end r) x q f, walk-high, top-is))
 
-    module _ (cap : ℕ) (o′ : List ℕ) (a : Pushed) (p : Holds o′ cap (stretch k lo hi (readRegions m o) (c .0) (r .base .0) Absent) a) where
-      pub walk-gap-full : a ≡ Full → Holds o′ cap whole Full
+    module _ (cap : ℕ) (o′ : List ℕ) (a : Pushed) (p : HoldsList o′ cap (stretch k lo hi (readRegions m o) (c .0) (r .base .0) Absent) a) where
+      pub walk-gap-full : a ≡ Full → HoldsList o′ cap whole Full
       unfolding gap both
       walk-gap-full f = full-holds o′ cap whole (omega (arith, holds-full o′ cap gap a p f, stretch-longer k lo hi gap (r .base .0) (end r) (Present (r .tag)), whole-longer))
 
-      module _ (m′ : ℕ) (f : a ≡ Count m′) (o″ : List ℕ) (a′ : Pushed) (p′ : Holds o″ cap (stretch k lo hi (readRegions m′ o′) (r .base .0) (end r) (Present (r .tag))) a′) where
-        holds-both : Holds o″ cap both a′
+      module _ (m′ : ℕ) (f : a ≡ Count m′) (o″ : List ℕ) (a′ : Pushed) (p′ : HoldsList o″ cap (stretch k lo hi (readRegions m′ o′) (r .base .0) (end r) (Present (r .tag))) a′) where
+        holds-both : HoldsList o″ cap both a′
         unfolding gap both
         holds-both = rw (holds-list o′ cap gap a p m′ f) at p′
 
-        pub walk-full : a′ ≡ Full → Holds o″ cap whole Full
+        pub walk-full : a′ ≡ Full → HoldsList o″ cap whole Full
         walk-full g = full-holds o″ cap whole (omega (arith, holds-full o″ cap both a′ holds-both g, whole-longer))
 
         module _ (m″ : ℕ) (g : a′ ≡ Count m″) (x : CheckedAddress) (q : x ≡ address (end r)) (y : Address) (s : x ≡ At y) where

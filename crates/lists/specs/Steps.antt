@@ -9,7 +9,7 @@ use Rattle.address.specs.Numbers.{up}
 use Rattle.regions.specs.declared.Region.{Region}
 use Rattle.regions.specs.Meaning.{at, shortest, top}
 use Rattle.regions.specs.Bytes.{readRegions}
-use Rattle.regions.specs.Steps.{Weighs}
+use Rattle.regions.specs.Steps.{FlagBounded}
 use Rattle.regions.specs.Changes.{change, after}
 use Rattle.lists.specs.declared.Pushed.{Pushed}
 use Rattle.lists.specs.declared.Pushed.the-variants.{Count, Full}
@@ -24,13 +24,13 @@ HoldsAfter (Count m) l xs = readRegions m l ≡ xs
 HoldsAfter Full l xs = Unit {0}
 
 -- the bytes l hold the list xs, if it has room
-pub record Holds (l : List ℕ) (cap : ℕ) (xs : List Region) (a : Pushed) : Type 0 where
+pub record HoldsList (l : List ℕ) (cap : ℕ) (xs : List Region) (a : Pushed) : Type 0 where
   pub answer : a ≡ fitsIn cap xs
   pub after : HoldsAfter a l xs
 
 -- a change over a range that ends at or below the top
 pub record Editable (e : Edit) : Type 0 where
-  pub weighs : Weighs (e .change)
+  pub flag-bounded : FlagBounded (e .change)
   pub low : e .lo .0 ≤ e .hi .0
   pub high : e .hi .0 ≤ top
 

@@ -14,11 +14,11 @@ ghost use Prim.Native.Nat.{_+_, _*_, _-_, _/_, _^_, _<_, _≤_};
 ghost use lib.ListN.{length};
 ghost use Rattle.regions.specs.Bytes.{readRegions};
 ghost use Rattle.regions.specs.Meaning.{region, end as endOf, joins, join, push};
-ghost use Rattle.lists.specs.Steps.{Holds, Editable, finished};
+ghost use Rattle.lists.specs.Steps.{HoldsList, Editable, finished};
 ghost use Rattle.records.specs.Steps.{Table};
 ghost use Rattle.regions.specs.Changes.{change};
 ghost use Rattle.regions.specs.declared.State.the-variants.{Absent, Present};
-ghost use Rattle.regions.specs.Steps.{Light, stretch};
+ghost use Rattle.regions.specs.Steps.{FlagsBounded, stretch};
 
 // How many records a scratch table holds now, or that it has no room.
 pub enum Pushed {
@@ -36,7 +36,7 @@ pub struct Edit {
 // Appends a region to the `n` records of `out`, which has room for `cap`.
 fn append(out: &mut [u8], n: usize, cap: usize, r: Region) -> Pushed
     requires { ⌜ (n ≤ cap) × (24 * cap ≤ length (now out)) ⌝ }
-    ensures { λ a. ⌜ Holds (now (out .exit)) cap (readRegions n (now (out .entry)) ++ (r ∷ [])) a ⌝ }
+    ensures { λ a. ⌜ HoldsList (now (out .exit)) cap (readRegions n (now (out .entry)) ++ (r ∷ [])) a ⌝ }
 {
     if n == cap {
         return Pushed::Full;
@@ -63,7 +63,7 @@ fn grown(p: Region, r: Region) -> Region
 // Puts a region behind the `n` records of `out`: the last one grows by it, or it is one more.
 fn push_region(out: &mut [u8], n: usize, cap: usize, r: Region) -> Pushed
     requires { ⌜ (n ≤ cap) × ((24 * cap ≤ length (now out)) × (endOf r < 2 ^ 64)) ⌝ }
-    ensures { λ a. ⌜ Holds (now (out .exit)) cap (join (readRegions n (now (out .entry))) (r .base .0) (r .size .0) (r .tag)) a ⌝ }
+    ensures { λ a. ⌜ HoldsList (now (out .exit)) cap (join (readRegions n (now (out .entry))) (r .base .0) (r .size .0) (r .tag)) a ⌝ }
 {
     if n == 0 {
         return append(out, n, cap, r);
@@ -82,7 +82,7 @@ fn push_region(out: &mut [u8], n: usize, cap: usize, r: Region) -> Pushed
 // Puts the addresses from `from` up to, not including, `to`, all of one state, behind the records.
 fn push_piece(out: &mut [u8], n: usize, cap: usize, from: Address, to: Address, v: State) -> Pushed
     requires { ⌜ (n ≤ cap) × ((24 * cap ≤ length (now out)) × (from .0 ≤ to .0)) ⌝ }
-    ensures { λ a. ⌜ Holds (now (out .exit)) cap (push (readRegions n (now (out .entry))) (from .0) (to .0 - from .0) v) a ⌝ }
+    ensures { λ a. ⌜ HoldsList (now (out .exit)) cap (push (readRegions n (now (out .entry))) (from .0) (to .0 - from .0) v) a ⌝ }
 {
     let State::Present(tag) = v else {
         return Pushed::Count(n);
@@ -108,8 +108,8 @@ fn push_stretch(
     to: Address,
     v: State,
 ) -> Pushed
-    requires { ⌜ (n ≤ cap) × ((24 * cap ≤ length (now out)) × ((from .0 ≤ to .0) × (Editable edit × Light v))) ⌝ }
-    ensures { λ a. ⌜ Holds (now (out .exit)) cap (stretch (change (edit .change)) (edit .lo .0) (edit .hi .0) (readRegions n (now (out .entry))) (from .0) (to .0) v) a ⌝ }
+    requires { ⌜ (n ≤ cap) × ((24 * cap ≤ length (now out)) × ((from .0 ≤ to .0) × (Editable edit × FlagsBounded v))) ⌝ }
+    ensures { λ a. ⌜ HoldsList (now (out .exit)) cap (stretch (change (edit .change)) (edit .lo .0) (edit .hi .0) (readRegions n (now (out .entry))) (from .0) (to .0) v) a ⌝ }
 {
     let lo = edit.lo;
     let hi = edit.hi;
@@ -128,7 +128,7 @@ fn push_stretch(
 // Puts the addresses from `from` up to, not including, `to`, of which the table has none, behind the records: filled where the edit fills them.
 fn push_gap(out: &mut [u8], n: usize, cap: usize, edit: Edit, from: Address, to: Address) -> Pushed
     requires { ⌜ (n ≤ cap) × ((24 * cap ≤ length (now out)) × ((from .0 ≤ to .0) × Editable edit)) ⌝ }
-    ensures { λ a. ⌜ Holds (now (out .exit)) cap (stretch (change (edit .change)) (edit .lo .0) (edit .hi .0) (readRegions n (now (out .entry))) (from .0) (to .0) Absent) a ⌝ }
+    ensures { λ a. ⌜ HoldsList (now (out .exit)) cap (stretch (change (edit .change)) (edit .lo .0) (edit .hi .0) (readRegions n (now (out .entry))) (from .0) (to .0) Absent) a ⌝ }
 {
     let change = edit.change;
     let lo = edit.lo;
@@ -144,7 +144,7 @@ fn push_gap(out: &mut [u8], n: usize, cap: usize, edit: Edit, from: Address, to:
 // Puts a record behind, changed inside the edit's range.
 fn push_record(out: &mut [u8], n: usize, cap: usize, edit: Edit, r: Region, end: Address) -> Pushed
     requires { ⌜ (n ≤ cap) × ((24 * cap ≤ length (now out)) × ((end .0 ≡ endOf r) × ((r .tag .flags ≤ 7) × Editable edit))) ⌝ }
-    ensures { λ a. ⌜ Holds (now (out .exit)) cap (stretch (change (edit .change)) (edit .lo .0) (edit .hi .0) (readRegions n (now (out .entry))) (r .base .0) (endOf r) (Present (r .tag))) a ⌝ }
+    ensures { λ a. ⌜ HoldsList (now (out .exit)) cap (stretch (change (edit .change)) (edit .lo .0) (edit .hi .0) (readRegions n (now (out .entry))) (r .base .0) (endOf r) (Present (r .tag))) a ⌝ }
 {
     let base = r.base;
     let tag = r.tag;
@@ -160,7 +160,7 @@ fn push_record(out: &mut [u8], n: usize, cap: usize, edit: Edit, r: Region, end:
 // Builds the finished shortest list of changed records in `out`, if it has room there.
 pub fn change_list(t: &[u8], count: usize, out: &mut [u8], edit: Edit) -> Pushed
     requires { ⌜ Table (now t) count × Editable edit ⌝ }
-    ensures { λ a. ⌜ Holds (now (out .exit)) (length (now (out .entry)) / 24) (finished edit (readRegions count (now (t .entry)))) a ⌝ }
+    ensures { λ a. ⌜ HoldsList (now (out .exit)) (length (now (out .entry)) / 24) (finished edit (readRegions count (now (t .entry)))) a ⌝ }
 {
     let cap = out.len() / 24;
     let hi = edit.hi;

@@ -28,39 +28,39 @@ use Rattle.search.specs.Answers.{Answer}
 use Rattle.runs.specs.Steps.{cutLow, cutHigh, fitLow, fitHigh}
 use Rattle.memblock.specs.Calls.{Call, leaves}
 use Rattle.memblock.specs.Cases.{Case, Holds, AllHold, fresh, cases}
-use Rattle.memblock.proofs.Playing.{sound, Played, told, play, plays, playable, allPlayable, sound-spellable, call-played, answers-played}
-use Rattle.regions.proofs.Twins as table
-use Rattle.runs.proofs.Twins as walks
+use Rattle.memblock.proofs.Computing.{sound, Result, spelled, compute, computeAll, computable, allComputable, sound-spellable, call-computed, answers-computed}
+use Rattle.regions.proofs.Update as table
+use Rattle.runs.proofs.Ways as walks
 
 -- the contents at the end
 unfoldable ended : List Call → Contents → Contents
 ended [] s = s
-ended (c ∷ cs) s = ended cs (play c s .after)
+ended (c ∷ cs) s = ended cs (compute c s .after)
 
-leaves-played : (cs : List Call) (s : Contents) → allPlayable cs s ≡ true → leaves cs (blockBytes current s) ≡ blockBytes current (ended cs s)
-unfolding leaves ended allPlayable
-leaves-played [] s e = refl
-leaves-played (c ∷ cs) s e =
-    let p = both (sound s && playable c) (allPlayable cs (play c s .after)) e in
-    let q = both (sound s) (playable c) (p .0) in
-    ap (λ (x : Answer). leaves cs (x .block)) (call-played c s (sound-spellable s (q .0)) (q .1)) ∙ leaves-played cs (play c s .after) (p .1)
+leaves-computed : (cs : List Call) (s : Contents) → allComputable cs s ≡ true → leaves cs (blockBytes current s) ≡ blockBytes current (ended cs s)
+unfolding leaves ended allComputable
+leaves-computed [] s e = refl
+leaves-computed (c ∷ cs) s e =
+    let p = both (sound s && computable c) (allComputable cs (compute c s .after)) e in
+    let q = both (sound s) (computable c) (p .0) in
+    ap (λ (x : Answer). leaves cs (x .block)) (call-computed c s (sound-spellable s (q .0)) (q .1)) ∙ leaves-computed cs (compute c s .after) (p .1)
 
 -- what is computed of a case
 record Computed (c : Case) : Type 0 where
-  playable : allPlayable (c .calls) freshContents ≡ true
+  computable : allComputable (c .calls) freshContents ≡ true
   sound : sound (ended (c .calls) freshContents) ≡ true
-  numbers : map (λ (p : Played). p .number) (plays (c .calls) freshContents) ≡ c .numbers
-  slips : map (λ (p : Played). p .slip) (plays (c .calls) freshContents) ≡ c .slips
+  numbers : map (λ (p : Result). p .number) (computeAll (c .calls) freshContents) ≡ c .numbers
+  slips : map (λ (p : Result). p .slip) (computeAll (c .calls) freshContents) ≡ c .slips
   memory : ended (c .calls) freshContents .memory ≡ c .memory
   memoryTotal : sizes (c .memory) ≡ c .memoryTotal
   taken : ended (c .calls) freshContents .taken ≡ c .taken
   takenTotal : sizes (c .taken) ≡ c .takenTotal
 
-told-numbers : (ps : List Played) → map (λ (a : Answer). a .number) (map told ps) ≡ map (λ (p : Played). p .number) ps
+told-numbers : (ps : List Result) → map (λ (a : Answer). a .number) (map spelled ps) ≡ map (λ (p : Result). p .number) ps
 told-numbers [] = refl
 told-numbers (p ∷ ps) = ap (λ (l : List ℕ). p .number ∷ l) (told-numbers ps)
 
-told-slips : (ps : List Played) → map (λ (a : Answer). a .slip) (map told ps) ≡ map (λ (p : Played). p .slip) ps
+told-slips : (ps : List Result) → map (λ (a : Answer). a .slip) (map spelled ps) ≡ map (λ (p : Result). p .slip) ps
 told-slips [] = refl
 told-slips (p ∷ ps) = ap (λ (l : List (List ℕ)). p .slip ∷ l) (told-slips ps)
 
@@ -68,13 +68,13 @@ computed-holds : (c : Case) → Computed c → Holds c
 computed-holds c p =
     let s = ended (c .calls) freshContents in
     let sp : Spellable current s = sound-spellable s (p .sound) in
-    let a = answers-played (c .calls) freshContents (p .playable) in
+    let a = answers-computed (c .calls) freshContents (p .computable) in
     let e : contents current (leaves (c .calls) fresh) ≡ s =
-    ap (contents current) (leaves-played (c .calls) freshContents (p .playable)) ∙ contents-spelled current small-current s sp in
+    ap (contents current) (leaves-computed (c .calls) freshContents (p .computable)) ∙ contents-spelled current small-current s sp in
     let t : (k : Kind) → total (at (listOf s k)) top ≡ sizes (listOf s k) = λ k. total-is-sizes (listOf s k) (good-rises k (listOf s k) (lists-ok current s (sp .good) k)) in
     record {
-      numbers = ap (map (λ (x : Answer). x .number)) a ∙ told-numbers (plays (c .calls) freshContents) ∙ p .numbers;
-      slips = ap (map (λ (x : Answer). x .slip)) a ∙ told-slips (plays (c .calls) freshContents) ∙ p .slips;
+      numbers = ap (map (λ (x : Answer). x .number)) a ∙ told-numbers (computeAll (c .calls) freshContents) ∙ p .numbers;
+      slips = ap (map (λ (x : Answer). x .slip)) a ∙ told-slips (computeAll (c .calls) freshContents) ∙ p .slips;
       memory = ap (λ (x : Contents). x .memory) e ∙ p .memory;
       memoryTotal = ap (λ (x : Contents). total (at (x .memory)) top) e ∙ t Memory ∙ ap sizes (p .memory) ∙ p .memoryTotal;
       taken = ap (λ (x : Contents). x .taken) e ∙ p .taken;
@@ -130,23 +130,23 @@ abbrev tables-right : Case → Contents → Bool
 tables-right c s =
     (sameRegions (s .memory) (c .memory) && eqb (sizes (c .memory)) (c .memoryTotal)) && (sameRegions (s .taken) (c .taken) && eqb (sizes (c .taken)) (c .takenTotal))
 
-abbrev answers-right : Case → List Played → Bool
-answers-right c ps = sameBytes (map (λ (p : Played). p .number) ps) (c .numbers) && sameSlips (map (λ (p : Played). p .slip) ps) (c .slips)
+abbrev answers-right : Case → List Result → Bool
+answers-right c ps = sameBytes (map (λ (p : Result). p .number) ps) (c .numbers) && sameSlips (map (λ (p : Result). p .slip) ps) (c .slips)
 
 right : Case → Bool
 right c =
-    (allPlayable (c .calls) freshContents && sound (ended (c .calls) freshContents))
-    && (answers-right c (plays (c .calls) freshContents) && tables-right c (ended (c .calls) freshContents))
+    (allComputable (c .calls) freshContents && sound (ended (c .calls) freshContents))
+    && (answers-right c (computeAll (c .calls) freshContents) && tables-right c (ended (c .calls) freshContents))
 
 right-holds : (c : Case) → right c ≡ true → Holds c
 unfolding right
 right-holds c e =
     let s = ended (c .calls) freshContents in
-    let ps = plays (c .calls) freshContents in
-    let p = both (allPlayable (c .calls) freshContents && sound s) (answers-right c ps && tables-right c s) e in
-    let a = both (allPlayable (c .calls) freshContents) (sound s) (p .0) in
+    let ps = computeAll (c .calls) freshContents in
+    let p = both (allComputable (c .calls) freshContents && sound s) (answers-right c ps && tables-right c s) e in
+    let a = both (allComputable (c .calls) freshContents) (sound s) (p .0) in
     let q = both (answers-right c ps) (tables-right c s) (p .1) in
-    let n = both (sameBytes (map (λ (p : Played). p .number) ps) (c .numbers)) (sameSlips (map (λ (p : Played). p .slip) ps) (c .slips)) (q .0) in
+    let n = both (sameBytes (map (λ (p : Result). p .number) ps) (c .numbers)) (sameSlips (map (λ (p : Result). p .slip) ps) (c .slips)) (q .0) in
     let m : Bool = sameRegions (s .memory) (c .memory) && eqb (sizes (c .memory)) (c .memoryTotal) in
     let t : Bool = sameRegions (s .taken) (c .taken) && eqb (sizes (c .taken)) (c .takenTotal) in
     let r = both m t (q .1) in
@@ -154,10 +154,10 @@ right-holds c e =
     let y = both (sameRegions (s .taken) (c .taken)) (eqb (sizes (c .taken)) (c .takenTotal)) (r .1) in
     computed-holds c
     record {
-      playable = a .0;
+      computable = a .0;
       sound = a .1;
-      numbers = same-true (map (λ (p : Played). p .number) ps) (c .numbers) (n .0);
-      slips = same-slips (map (λ (p : Played). p .slip) ps) (c .slips) (n .1);
+      numbers = same-true (map (λ (p : Result). p .number) ps) (c .numbers) (n .0);
+      slips = same-slips (map (λ (p : Result). p .slip) ps) (c .slips) (n .1);
       memory = same-regions (s .memory) (c .memory) (x .0);
       memoryTotal = eqb-true (sizes (c .memory)) (c .memoryTotal) (x .1);
       taken = same-regions (s .taken) (c .taken) (y .0);
@@ -176,7 +176,7 @@ all-right (c ∷ cs) e =
     (right-holds c (p .0), all-right cs (p .1))
 
 cases-right : allRight cases ≡ true
-unfolding allRight right sameSlips sameRegions sameRegion cases capacity allPlayable plays ended play playable sameBytes sizes powerBelow fits rises legal legalTag change roundEach bytes push join stretch table.walk table.update cutLow cutHigh fitLow fitHigh walks.gaps walks.walk walks.onto walks.falling
+unfolding allRight right sameSlips sameRegions sameRegion cases capacity allComputable computeAll ended compute computable sameBytes sizes powerBelow fits rises legal legalTag change roundEach bytes push join stretch table.walk table.update cutLow cutHigh fitLow fitHigh walks.gaps walks.walk walks.onto walks.falling
 cases-right = refl
 
 -- the marked cases

@@ -21,7 +21,7 @@ ends-members : (b : List ℕ) (ds es : List Command) (e : List ℕ) → ((d : Co
 ends-members b ds es e to from p =
     record {
       isGood = p .isGood;
-      stands = λ k a. record { covered = λ d m. p .stands k a .covered d (from d m); free = λ o. p .stands k a .free (λ d m. o d (to d m)) };
+      stands = λ k a. record { covered = λ d m. p .stands k a .covered d (from d m); uncovered = λ o. p .stands k a .uncovered (λ d m. o d (to d m)) };
       settings = p .settings;
       spare = p .spare;
     }

@@ -12,7 +12,7 @@ use Rattle.regions.specs.declared.Kind.the-variants.{Memory, Taken}
 use Rattle.regions.specs.declared.State.the-variants.{Present}
 use Rattle.regions.specs.Meaning.{at}
 use Rattle.regions.specs.Changes.{change, cut}
-use Rattle.regions.specs.Free.{usable, free as freeMemory, freeRuns}
+use Rattle.regions.specs.Free.{usable, freeMemory, freeRuns}
 use Rattle.regions.proofs.RoundTrip.{inside-yes}
 use Rattle.regions.proofs.Lying.{OneTag, in-one-run}
 use Rattle.block.specs.Block.{current, contents, good}

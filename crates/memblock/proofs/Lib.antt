@@ -4,7 +4,7 @@ pub mod Runs
 pub mod Often
 pub mod Standing
 pub mod DemandThree
-pub mod Playing
+pub mod Computing
 pub mod Called
 pub mod Cases
 pub mod Freed

@@ -15,7 +15,7 @@ use Rattle.regions.specs.declared.Kind.the-variants.{Taken}
 use Rattle.regions.specs.declared.Change.the-variants.{Fill}
 use Rattle.block.specs.Block.{current, capacity, blockLength, listOf, contents, good}
 use Rattle.tables.specs.declared.commands.Verb.the-variants.{Reserve}
-use Rattle.tables.specs.Commands.{Outcome, unless, done, store, changeRange, tag, Command, command, table, changeOf, legalVerb, commandOutcome, fresh, set, trim}
+use Rattle.tables.specs.Commands.{Outcome, unless, doneWith, store, changeRange, tag, Command, command, table, changeOf, legalVerb, commandOutcome, fresh, set, trim}
 use Rattle.tables.proofs.Good.{command-good, trim-good, set-good, fresh-good}
 use Rattle.intake.specs.Turns.{inTurn, wholly}
 use Rattle.intake.specs.E820.{entries, readable, entrySteps, intakeE820}
@@ -38,14 +38,14 @@ unless-keeps false n b o h = λ d. refl
 
 -- so do two and three refusals in front of what is done
 module _ (b x : List ℕ) where
-  one-keeps : (t : Bool) (n : ℕ) → Keeps b (unless t n b (done x))
-  one-keeps t n = unless-keeps t n b (done x) (λ d. absurd (d refl))
+  one-keeps : (t : Bool) (n : ℕ) → Keeps b (unless t n b (doneWith x))
+  one-keeps t n = unless-keeps t n b (doneWith x) (λ d. absurd (d refl))
 
-  two-keep : (t u : Bool) (n m : ℕ) → Keeps b (unless t n b (unless u m b (done x)))
-  two-keep t u n m = unless-keeps t n b (unless u m b (done x)) (one-keeps u m)
+  two-keep : (t u : Bool) (n m : ℕ) → Keeps b (unless t n b (unless u m b (doneWith x)))
+  two-keep t u n m = unless-keeps t n b (unless u m b (doneWith x)) (one-keeps u m)
 
-  three-keep : (t u v : Bool) (n m k : ℕ) → Keeps b (unless t n b (unless u m b (unless v k b (done x))))
-  three-keep t u v n m k = unless-keeps t n b (unless u m b (unless v k b (done x))) (two-keep u v m k)
+  three-keep : (t u v : Bool) (n m k : ℕ) → Keeps b (unless t n b (unless u m b (unless v k b (doneWith x))))
+  three-keep t u v n m k = unless-keeps t n b (unless u m b (unless v k b (doneWith x))) (two-keep u v m k)
 
 -- what is done on a block that must be good was done on a good one
 was-good : (t : Bool) (b : List ℕ) (o : Outcome) → unless t 1 b o .number ≡ 0 → t ≡ true

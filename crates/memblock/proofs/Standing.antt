@@ -71,7 +71,7 @@ module _ (ds : List Command) (w : Agreed ds) (b e : List ℕ) (g : good current 
         covered =
             λ d m t c. let f : works d k a ≡ true = works-yes d k a t c in
             r .says k a ∙ through-only k a (d .verb) ds v (agreed-only ds w k a d m f) d m f ∙ change-says (d .verb) v (rw t (start-legal k a));
-        free = λ o. r .says k a ∙ through-none k a ds v (λ d m. works-no d k a (o d m));
+        uncovered = λ o. r .says k a ∙ through-none k a ds v (λ d m. works-no d k a (o d m));
       }
 
   pub ran-ends : Ends b ds e
@@ -113,7 +113,7 @@ stands-same ds k a start v w p q = go (some-or-none k a ds)
     go (inl h) =
         let f = works-true (h .0) k a (h .2) in
         p .covered (h .0) (h .1) (f .0) (f .1) ∙ sym (q .covered (h .0) (h .1) (f .0) (f .1))
-    go (inr o) = p .free (clear o) ∙ sym (q .free (clear o))
+    go (inr o) = p .uncovered (clear o) ∙ sym (q .uncovered (clear o))
 
 pub ends-same : (b : List ℕ) (ds : List Command) (e f : List ℕ) → Ends b ds e → Ends b ds f → e ≡ f
 ends-same b ds e f p q =

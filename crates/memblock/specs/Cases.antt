@@ -66,8 +66,8 @@ allocate size align = toAllocate (query size align 0 0 4294967295) lent
 abbrev pub gives : ℕ → ℕ → List ℕ
 gives a size = slipOf a (a + size)
 
-abbrev pub zeros : List ℕ
-zeros = replicate 16 0
+abbrev pub zeroSlip : List ℕ
+zeroSlip = replicate 16 0
 
 abbrev pub noSlip : List ℕ
 noSlip = []
@@ -111,18 +111,18 @@ cases =
     (gives 0x1F000 0x1000 ∷ gives 0x1E000 0x1000 ∷ noSlip ∷ gives 0x1E800 0x800 ∷ [])
     -- 4: either direction
     ∷ withM (of 0x18000 0x1000 0 ∷ []) 0x1000 (reserve 0x18000 0x1000 ∷ find 0x8000 1 ∷ find 0x8001 1 ∷ bottomUp ∷ find 0x8000 1 ∷ find 0x8001 1 ∷ [])
-    (0 ∷ 0 ∷ 5 ∷ 0 ∷ 0 ∷ 5 ∷ []) (noSlip ∷ gives 0x10000 0x8000 ∷ zeros ∷ noSlip ∷ gives 0x10000 0x8000 ∷ zeros ∷ [])
+    (0 ∷ 0 ∷ 5 ∷ 0 ∷ 0 ∷ 5 ∷ []) (noSlip ∷ gives 0x10000 0x8000 ∷ zeroSlip ∷ noSlip ∷ gives 0x10000 0x8000 ∷ zeroSlip ∷ [])
     -- 5: a size larger than the end
-    ∷ untaken (of 0x1000 0x1000 0 ∷ []) 0x1000 (add 0x1000 0x1000 0 ∷ find 0x3000 1 ∷ []) (0 ∷ 5 ∷ []) (noSlip ∷ zeros ∷ [])
+    ∷ untaken (of 0x1000 0x1000 0 ∷ []) 0x1000 (add 0x1000 0x1000 0 ∷ find 0x3000 1 ∷ []) (0 ∷ 5 ∷ []) (noSlip ∷ zeroSlip ∷ [])
     -- 6: nothing below 4096
     ∷ untaken (of 0 0x2000 0 ∷ []) 0x2000 (add 0 0x2000 0 ∷ bottomUp ∷ find 0x1000 0x1000 ∷ find 0x1001 0x1000 ∷ []) (0 ∷ 0 ∷ 0 ∷ 5 ∷ [])
-    (noSlip ∷ noSlip ∷ gives 0x1000 0x1000 ∷ zeros ∷ [])
+    (noSlip ∷ noSlip ∷ gives 0x1000 0x1000 ∷ zeroSlip ∷ [])
     -- 7: the cut at the top
     ∷ untaken (of (2 ^ 64 - 4096) 0xFFF 0 ∷ []) 0xFFF (add (2 ^ 64 - 4096) 0x2000 0 ∷ []) (0 ∷ []) (noSlip ∷ [])
     ∷ untaken [] 0 (add (2 ^ 64 - 1) 1 0 ∷ []) (0 ∷ []) (noSlip ∷ [])
     -- 8: rounding up past the top; trim empties the table
     ∷ untaken (of (2 ^ 64 - 4095) 0xFFE 0 ∷ []) 0xFFE (add (2 ^ 64 - 4095) 0xFFE 0 ∷ find 1 0x1000 ∷ bottomUp ∷ find 1 0x1000 ∷ []) (0 ∷ 5 ∷ 0 ∷ 5 ∷ [])
-    (noSlip ∷ zeros ∷ noSlip ∷ zeros ∷ [])
+    (noSlip ∷ zeroSlip ∷ noSlip ∷ zeroSlip ∷ [])
     ∷ untaken [] 0 (add (2 ^ 64 - 4095) 0xFFE 0 ∷ toTrim 0x1000 ∷ []) (0 ∷ 0 ∷ []) (noSlip ∷ noSlip ∷ [])
     -- 9: in the one order and in the other
     ∷ untaken (of 0 0x1000 1 ∷ of 0x1000 0x1000 0 ∷ of 0x2000 0x1000 1 ∷ []) 0x3000 (add 0x1000 0x1000 0 ∷ add 0 0x3000 1 ∷ []) (0 ∷ 0 ∷ []) (noSlip ∷ noSlip ∷ [])
@@ -130,5 +130,5 @@ cases =
     -- 10: no run across two tags
     ∷ untaken (of 0x10000 0x8000 0 ∷ of 0x18000 0x8000 1 ∷ []) 0x10000
     (add 0x10000 0x8000 0 ∷ add 0x18000 0x8000 1 ∷ find 0x8001 1 ∷ find 0x8000 1 ∷ bottomUp ∷ find 0x8001 1 ∷ find 0x8000 1 ∷ []) (0 ∷ 0 ∷ 5 ∷ 0 ∷ 0 ∷ 5 ∷ 0 ∷ [])
-    (noSlip ∷ noSlip ∷ zeros ∷ gives 0x18000 0x8000 ∷ noSlip ∷ zeros ∷ gives 0x10000 0x8000 ∷ [])
+    (noSlip ∷ noSlip ∷ zeroSlip ∷ gives 0x18000 0x8000 ∷ noSlip ∷ zeroSlip ∷ gives 0x10000 0x8000 ∷ [])
     ∷ []

@@ -59,7 +59,7 @@ says Free v = Absent
 -- v is how the address stands in the table k at the end: as a command of the list that works there and covers it says, or, where none does, as at the start
 pub record Stands (ds : List Command) (k : Kind) (a : ℕ) (start v : State) : Type 0 where
   pub covered : (d : Command) → List·Memᴰ d ds → table (d .verb) ≡ k → covers d a ≡ true → v ≡ says (d .verb) start
-  pub free : ((d : Command) → List·Memᴰ d ds → table (d .verb) ≡ k → covers d a ≡ false) → v ≡ start
+  pub uncovered : ((d : Command) → List·Memᴰ d ds → table (d .verb) ≡ k → covers d a ≡ false) → v ≡ start
 
 -- ---- the same commands done
 

@@ -20,14 +20,14 @@ use Rattle.regions.specs.declared.State.the-variants.{Absent, Present}
 use Rattle.regions.specs.Meaning.{end, at, total, top, top-is}
 use Rattle.regions.specs.Lists.{is, fits, rises, legal, legalTag, goodList}
 use Rattle.regions.specs.Bytes.{readRegion, readRegions}
-use Rattle.address.proofs.Tests.{le-or-lt}
+use Rattle.address.proofs.Tests.{le-or-lt, zero-not-one}
 use Rattle.regions.proofs.Rises.{Fits, fits-Fits}
 use Rattle.regions.proofs.Fitting.{fits-empty, fits-below, fits-above, fits-touch}
 use Rattle.regions.proofs.Numbers.{Bytes, number-lt, bytes-drop}
 use Rattle.regions.proofs.Count.{sizes}
 use Rattle.regions.proofs.Good.{good-rises, total-is-sizes, rises-past}
 use Rattle.regions.proofs.Records.{read-regions-rest, read-regions-end}
-use Rattle.records.specs.Checks.{zeros, checkedList, goodPart, checkedTable}
+use Rattle.records.specs.Checks.{allZeros, checkedList, goodPart, checkedTable}
 use Rattle.records.specs.declared.table.Checked.{Checked}
 use Rattle.records.specs.declared.table.Checked.the-variants.{Total, Bad}
 use Rattle.address.specs.declared.CheckedAddress.the-variants as Address
@@ -170,7 +170,7 @@ module _ (k : Kind) (n : ℕ) (l : List ℕ) where
     list-bad f = go (goodList k (readRegions n l)) e
       where
         go : (b : Bool) → x ≡ cond b (Total (record { 0 = total (at (readRegions n l)) top })) Bad → b ≡ false
-        go true g = absurd (let z : _≡_ {A = ℕ} 0 1 = cc in omega arith)
+        go true g = absurd (zero-not-one cc)
         go false g = refl
 
     list-good : (s : Size) → x ≡ Total s → (goodList k (readRegions n l) ≡ true) × (s ≡ record { 0 = total (at (readRegions n l)) top })
@@ -179,17 +179,17 @@ module _ (k : Kind) (n : ℕ) (l : List ℕ) where
       where
         go : (b : Bool) → x ≡ cond b (Total (record { 0 = total (at (readRegions n l)) top })) Bad → (b ≡ true) × (s ≡ record { 0 = total (at (readRegions n l)) top })
         go true g = (refl, cc)
-        go false g = absurd (let z : _≡_ {A = ℕ} 0 1 = cc in omega arith)
+        go false g = absurd (zero-not-one cc)
 
     pub table-bad : x ≡ Bad → Bad ≡ checkedTable k n l
     unfolding checkedTable goodPart
     table-bad f = rw (list-bad f, and-false)
 
-    pub table-tail : (b : Bool) → b ≡ zeros (drop (24 * n) l) → not b ≡ true → Bad ≡ checkedTable k n l
+    pub table-tail : (b : Bool) → b ≡ allZeros (drop (24 * n) l) → not b ≡ true → Bad ≡ checkedTable k n l
     unfolding checkedTable goodPart
     table-tail b q t = rw (← q, not-true b t, and-false, and-false)
 
-    pub table-done : (s : Size) → x ≡ Total s → n ≤ length l / 24 → (b : Bool) → b ≡ zeros (drop (24 * n) l) → not b ≡ false → Total s ≡ checkedTable k n l
+    pub table-done : (s : Size) → x ≡ Total s → n ≤ length l / 24 → (b : Bool) → b ≡ allZeros (drop (24 * n) l) → not b ≡ false → Total s ≡ checkedTable k n l
     unfolding checkedTable goodPart
     table-done s f h b q t =
         let g = list-good s f in

@@ -18,7 +18,7 @@ use Rattle.regions.specs.declared.Region.{Region}
 use Rattle.regions.specs.declared.State.{State}
 use Rattle.regions.specs.Meaning.{end}
 use Rattle.regions.specs.Bytes.{readRegion, readRegions}
-use Rattle.regions.proofs.Rises.{Rises, done, next, reach}
+use Rattle.regions.proofs.Rises.{Rises, ended, next, reach}
 use Rattle.regions.proofs.Records.{read-regions-length}
 use Rattle.records.specs.Steps.{endingBy}
 
@@ -53,7 +53,7 @@ module _ (a : ℕ) where
   -- where the first region ends at or below the address, so does what it begins behind
   first-low : {c m : ℕ} {v : State} {xs : List Region} → Rises c v m xs → 0 < endingBy a xs → c ≤ a
   unfolding endingBy
-  first-low (done l) h = absurd (not-suc-le-zero h)
+  first-low (ended l) h = absurd (not-suc-le-zero h)
   first-low {c} (next {r = r} {rs = rs} f w) h = go (leb (end r) a) refl h
     where
       go : (t : Bool) → leb (end r) a ≡ t → 0 < cond t (suc (endingBy a rs)) 0 → c ≤ a

@@ -11,7 +11,7 @@ use Rattle.regions.specs.declared.Region.{Region}
 use Rattle.regions.specs.Bytes.{readRegion, readRegions, regionBytes, regionsBytes, tableBytes}
 use Rattle.regions.proofs.Numbers.{Bytes, bytes-drop, sets-append}
 use Rattle.regions.proofs.Records.{Fit, region-bytes-length, put-here, regions-bytes-read, read-regions-length}
-use Rattle.records.specs.Checks.{zeros}
+use Rattle.records.specs.Checks.{allZeros}
 use Rattle.records.specs.Steps.{put}
 use Rattle.records.proofs.Zeros.{zeros-replicate}
 use Rattle.records.proofs.Placing.{further}
@@ -91,7 +91,7 @@ drop-replicate (suc k) (suc n) = let e : suc n - suc k ≡ n - k = omega arith i
 -- ---- and the new records put before it
 
 module _ (t src : List ℕ) (count first stop n : ℕ) (a : first ≤ stop) (b : stop ≤ count) (r : 24 * count ≤ length t) (s : 24 * (count - stop + (first + n)) ≤ length t)
-    (w : 24 * n ≤ length src) (d : length t ≡ 24 * (length t / 24)) (z : zeros (drop (24 * count) t) ≡ true) (bt : Bytes t) (bs : Bytes src) where
+    (w : 24 * n ≤ length src) (d : length t ≡ 24 * (length t / 24)) (z : allZeros (drop (24 * count) t) ≡ true) (bt : Bytes t) (bs : Bytes src) where
   tail : List ℕ
   tail = take (24 * (count - stop)) (drop (24 * stop) t)
 
@@ -172,7 +172,7 @@ module _ (t src : List ℕ) (count first stop n : ℕ) (a : first ≤ stop) (b :
 
 -- one record
 pub replaced-one : (t : List ℕ) (count first stop : ℕ) → first ≤ stop → stop ≤ count → 24 * count ≤ length t → 24 * (count - stop + (first + 1)) ≤ length t → length t ≡ 24 * (length t / 24)
-    → zeros (drop (24 * count) t) ≡ true → Bytes t → (t′ z : List ℕ) (r : Region) → Fit r → Bytes z
+    → allZeros (drop (24 * count) t) ≡ true → Bytes t → (t′ z : List ℕ) (r : Region) → Fit r → Bytes z
     → t′ ≡ sets t (24 * (first + 1)) (take (24 * (count - stop)) (drop (24 * stop) t) ++ replicate (24 * (stop - (first + 1))) 0) → length t′ ≡ length t → z ≡ sets t′ (24 * first) (regionBytes r)
     → z ≡ tableBytes (length t / 24) (put first stop (r ∷ []) (readRegions count t))
 unfolding readRegions

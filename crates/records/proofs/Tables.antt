@@ -16,29 +16,29 @@ use Rattle.regions.specs.Lists.{legal, legalTag, goodList}
 use Rattle.regions.specs.Bytes.{readRegions}
 use Rattle.regions.proofs.Rises.{Rises-rises}
 use Rattle.regions.proofs.Good.{good-rises, good-legal}
-use Rattle.records.specs.Steps.{AllLight, Table}
+use Rattle.records.specs.Steps.{AllFlagsBounded, Table}
 
 -- legal tags have few flags
-tag-light : (k : Kind) (t : Tag) → legalTag k t ≡ true → t .flags ≤ 7
+tag-flags-bounded : (k : Kind) (t : Tag) → legalTag k t ≡ true → t .flags ≤ 7
 unfolding legalTag
-tag-light Memory t e = go (eqb (t .flags) 0) refl (both (eqb (t .flags) 0 || eqb (t .flags) 4) (leb (t .node) 63) e .0)
+tag-flags-bounded Memory t e = go (eqb (t .flags) 0) refl (both (eqb (t .flags) 0 || eqb (t .flags) 4) (leb (t .node) 63) e .0)
   where
     go : (b : Bool) → eqb (t .flags) 0 ≡ b → b || eqb (t .flags) 4 ≡ true → t .flags ≤ 7
     go true f g = omega (arith, eqb-true (t .flags) 0 f)
     go false f g = omega (arith, eqb-true (t .flags) 4 g)
-tag-light Taken t e = omega (arith, eqb-true (t .flags) 0 (both (eqb (t .flags) 0) (eqb (t .node) 0) e .0))
+tag-flags-bounded Taken t e = omega (arith, eqb-true (t .flags) 0 (both (eqb (t .flags) 0) (eqb (t .node) 0) e .0))
 
-legal-light : (k : Kind) (xs : List Region) → legal k xs ≡ true → AllLight xs
+legal-flags-bounded : (k : Kind) (xs : List Region) → legal k xs ≡ true → AllFlagsBounded xs
 unfolding legal
-legal-light k [] e = tt
-legal-light k (r ∷ rs) e =
+legal-flags-bounded k [] e = tt
+legal-flags-bounded k (r ∷ rs) e =
     let p = both (legalTag k (r .tag)) (legal k rs) e in
-    (tag-light k (r .tag) (p .0), legal-light k rs (p .1))
+    (tag-flags-bounded k (r .tag) (p .0), legal-flags-bounded k rs (p .1))
 
 pub good-table : (k : Kind) (n : ℕ) (l : List ℕ) → 24 * n ≤ length l → goodList k (readRegions n l) ≡ true → Table l n
 good-table k n l h g =
     record {
       room = h;
       rising = Rises-rises (good-rises k (readRegions n l) g);
-      light = legal-light k (readRegions n l) (good-legal k (readRegions n l) g);
+      flags-bounded = legal-flags-bounded k (readRegions n l) (good-legal k (readRegions n l) g);
     }

@@ -13,7 +13,7 @@ use lib.Bits.{bitOr, or-add-and, and-le-l, and-le-r}
 use borrow.Author.Tests.{eq-eqb, ne-eqb, eqb-true, eqb-false}
 use Rattle.address.proofs.Tests.{both}
 use Rattle.regions.specs.Bytes.{number}
-use Rattle.records.specs.Checks.{zeros}
+use Rattle.records.specs.Checks.{allZeros}
 
 -- a sum is 0 where both parts are
 sum-zero : (b m : ℕ) → eqb (b + 256 * m) 0 ≡ (eqb b 0 && eqb m 0)
@@ -28,43 +28,43 @@ sum-zero b m = go (eqb b 0) refl
     go false e = ne-eqb (b + 256 * m) 0 (λ z. eqb-false b 0 e (omega arith))
 
 -- the first k bytes are 0 exactly when the number that they spell is
-zeros-number : (k : ℕ) (l : List ℕ) → k ≤ length l → zeros l ≡ (eqb (number k l) 0 && zeros (drop k l))
-unfolding zeros number
+zeros-number : (k : ℕ) (l : List ℕ) → k ≤ length l → allZeros l ≡ (eqb (number k l) 0 && allZeros (drop k l))
+unfolding allZeros number
 zeros-number zero l h = refl
 zeros-number (suc k) [] h = absurd (not-suc-le-zero h)
-zeros-number (suc k) (b ∷ l) h = rw (sum-zero b (number k l), zeros-number k l (le-of-suc-le-suc h)) (three (eqb b 0) (eqb (number k l) 0) (zeros (drop k l)))
+zeros-number (suc k) (b ∷ l) h = rw (sum-zero b (number k l), zeros-number k l (le-of-suc-le-suc h)) (three (eqb b 0) (eqb (number k l) 0) (allZeros (drop k l)))
   where
     three : (x y z : Bool) → x && (y && z) ≡ (x && y) && z
     three true y z = refl
     three false y z = refl
 
-module _ (l : List ℕ) (at i : ℕ) (inv : zeros (drop at l) ≡ zeros (drop i l)) where
-  pub zeros-end : length l ≤ i → true ≡ zeros (drop at l)
-  unfolding zeros
-  zeros-end h = sym (inv ∙ ap zeros (drop-of-length-le l h))
+module _ (l : List ℕ) (at i : ℕ) (inv : allZeros (drop at l) ≡ allZeros (drop i l)) where
+  pub zeros-end : length l ≤ i → true ≡ allZeros (drop at l)
+  unfolding allZeros
+  zeros-end h = sym (inv ∙ ap allZeros (drop-of-length-le l h))
 
-  step : i < length l → zeros (drop at l) ≡ (eqb (getD l i 0) 0 && zeros (drop (i + 1) l))
-  unfolding zeros
-  step h = inv ∙ ap zeros (drop-cons l i 0 h) ∙ rw add-one
+  step : i < length l → allZeros (drop at l) ≡ (eqb (getD l i 0) 0 && allZeros (drop (i + 1) l))
+  unfolding allZeros
+  step h = inv ∙ ap allZeros (drop-cons l i 0 h) ∙ rw add-one
 
-  pub zeros-hit : i < length l → (getD l i 0 ≡ 0 → ⊥) → false ≡ zeros (drop at l)
+  pub zeros-hit : i < length l → (getD l i 0 ≡ 0 → ⊥) → false ≡ allZeros (drop at l)
   zeros-hit h z = rw (step h, ne-eqb (getD l i 0) 0 z)
 
-  pub zeros-again : i < length l → getD l i 0 ≡ 0 → zeros (drop at l) ≡ zeros (drop (i + 1) l)
+  pub zeros-again : i < length l → getD l i 0 ≡ 0 → allZeros (drop at l) ≡ allZeros (drop (i + 1) l)
   zeros-again h z = rw (step h, eq-eqb (getD l i 0) 0 z)
 
-  step8 : 8 ≤ length l - i → zeros (drop at l) ≡ (eqb (number 8 (drop i l)) 0 && zeros (drop (i + 8) l))
+  step8 : 8 ≤ length l - i → allZeros (drop at l) ≡ (eqb (number 8 (drop i l)) 0 && allZeros (drop (i + 8) l))
   step8 h =
       let n : 8 ≤ length (drop i l) = simp length-drop (omega arith) in
       inv ∙ zeros-number 8 (drop i l) n ∙ rw drop-drop
 
-  pub zeros-hit8 : (v : ℕ) → 8 ≤ length l - i → v ≡ number 8 (drop i l) → (v ≡ 0 → ⊥) → false ≡ zeros (drop at l)
+  pub zeros-hit8 : (v : ℕ) → 8 ≤ length l - i → v ≡ number 8 (drop i l) → (v ≡ 0 → ⊥) → false ≡ allZeros (drop at l)
   zeros-hit8 v h e z = rw (step8 h, ← e, ne-eqb v 0 z)
 
-  pub zeros-again8 : (v : ℕ) → 8 ≤ length l - i → v ≡ number 8 (drop i l) → v ≡ 0 → zeros (drop at l) ≡ zeros (drop (i + 8) l)
+  pub zeros-again8 : (v : ℕ) → 8 ≤ length l - i → v ≡ number 8 (drop i l) → v ≡ 0 → allZeros (drop at l) ≡ allZeros (drop (i + 8) l)
   zeros-again8 v h e z = rw (step8 h, ← e, eq-eqb v 0 z)
 
-  pub zeros-rest : (b : Bool) → b ≡ zeros (drop i l) → b ≡ zeros (drop at l)
+  pub zeros-rest : (b : Bool) → b ≡ allZeros (drop i l) → b ≡ allZeros (drop at l)
   zeros-rest b e = e ∙ sym inv
 
 -- ---- words joined
@@ -81,18 +81,18 @@ or-none a b = go (eqb a 0) refl
         rest false f = ne-eqb (bitOr a b) 0 (λ z. eqb-false b 0 f (omega (arith, or-add-and a b, and-le-l a b)))
     go false e = ne-eqb (bitOr a b) 0 (λ z. eqb-false a 0 e (omega (arith, or-add-and a b, and-le-r a b)))
 
-zeros-append : (x y : List ℕ) → zeros (x ++ y) ≡ (zeros x && zeros y)
-unfolding zeros
+zeros-append : (x y : List ℕ) → allZeros (x ++ y) ≡ (allZeros x && allZeros y)
+unfolding allZeros
 zeros-append [] y = refl
 zeros-append (b ∷ x) y = rw (zeros-append x y) (go (eqb b 0))
   where
-    go : (t : Bool) → t && (zeros x && zeros y) ≡ (t && zeros x) && zeros y
+    go : (t : Bool) → t && (allZeros x && allZeros y) ≡ (t && allZeros x) && allZeros y
     go true = refl
     go false = refl
 
 -- a number is 0 where its bytes are
-number-zeros : (k : ℕ) (l : List ℕ) → eqb (number k l) 0 ≡ zeros (take k l)
-unfolding zeros number
+number-zeros : (k : ℕ) (l : List ℕ) → eqb (number k l) 0 ≡ allZeros (take k l)
+unfolding allZeros number
 number-zeros zero l = refl
 number-zeros (suc k) [] = refl
 number-zeros (suc k) (b ∷ l) = sum-zero b (number k l) ∙ rw (number-zeros k l)
@@ -100,7 +100,7 @@ number-zeros (suc k) (b ∷ l) = sum-zero b (number k l) ∙ rw (number-zeros k 
 module _ (l : List ℕ) where
   -- v is 0 exactly when the m bytes from i on are
   abbrev Spells : ℕ → ℕ → ℕ → Type 0
-  Spells m i v = eqb v 0 ≡ zeros (take m (drop i l))
+  Spells m i v = eqb v 0 ≡ allZeros (take m (drop i l))
 
   word : (i v : ℕ) → v ≡ number 8 (drop i l) → Spells 8 i v
   word i v e = rw e (number-zeros 8 (drop i l))
@@ -119,61 +119,61 @@ module _ (l : List ℕ) where
       s
 
   pub four-words : (i a b c d : ℕ) → a ≡ number 8 (drop i l) → b ≡ number 8 (drop (i + 8) l) → c ≡ number 8 (drop (i + 16) l) → d ≡ number 8 (drop (i + 24) l)
-      → eqb (bitOr (bitOr (bitOr a b) c) d) 0 ≡ zeros (take 32 (drop i l))
+      → eqb (bitOr (bitOr (bitOr a b) c) d) 0 ≡ allZeros (take 32 (drop i l))
   four-words i a b c d p q r s = four 8 i (i + 16) (i + 24) 32 a b c d refl refl refl (word i a p) (word (i + 8) b q) (word (i + 16) c r) (word (i + 24) d s)
 
-  pub four-32 : (i a b c d : ℕ) → eqb a 0 ≡ zeros (take 32 (drop i l)) → eqb b 0 ≡ zeros (take 32 (drop (i + 32) l)) → eqb c 0 ≡ zeros (take 32 (drop (i + 64) l))
-      → eqb d 0 ≡ zeros (take 32 (drop (i + 96) l)) → eqb (bitOr (bitOr (bitOr a b) c) d) 0 ≡ zeros (take 128 (drop i l))
+  pub four-32 : (i a b c d : ℕ) → eqb a 0 ≡ allZeros (take 32 (drop i l)) → eqb b 0 ≡ allZeros (take 32 (drop (i + 32) l)) → eqb c 0 ≡ allZeros (take 32 (drop (i + 64) l))
+      → eqb d 0 ≡ allZeros (take 32 (drop (i + 96) l)) → eqb (bitOr (bitOr (bitOr a b) c) d) 0 ≡ allZeros (take 128 (drop i l))
   four-32 i a b c d p q r s = four 32 i (i + 64) (i + 96) 128 a b c d refl refl refl p q r s
 
   -- from `at` up to i all is 0
-  cut : (at i : ℕ) → at ≤ i → zeros (drop at l) ≡ (zeros (take (i - at) (drop at l)) && zeros (drop i l))
+  cut : (at i : ℕ) → at ≤ i → allZeros (drop at l) ≡ (allZeros (take (i - at) (drop at l)) && allZeros (drop i l))
   cut at i h =
       let e : at + (i - at) ≡ i = omega arith in
       let d : drop (i - at) (drop at l) ≡ drop i l = drop-drop (i - at) at l ∙ rw e in
       let f : take (i - at) (drop at l) ++ drop i l ≡ drop at l = rw (← d) (take-append-drop (i - at) (drop at l)) in
       rw (← zeros-append, f)
 
-  pub none-yet : (at : ℕ) → zeros (take (at - at) (drop at l)) ≡ true
-  unfolding zeros
+  pub none-yet : (at : ℕ) → allZeros (take (at - at) (drop at l)) ≡ true
+  unfolding allZeros
   none-yet at = let e : at - at ≡ 0 = omega arith in rw e
 
   -- m bytes a turn
-  module _ (m at i : ℕ) (low : at ≤ i) (inv : zeros (take (i - at) (drop at l)) ≡ true) where
-    pub zero-turn : (v : ℕ) → eqb v 0 ≡ zeros (take m (drop i l)) → v ≡ 0 → zeros (take (i + m - at) (drop at l)) ≡ true
+  module _ (m at i : ℕ) (low : at ≤ i) (inv : allZeros (take (i - at) (drop at l)) ≡ true) where
+    pub zero-turn : (v : ℕ) → eqb v 0 ≡ allZeros (take m (drop i l)) → v ≡ 0 → allZeros (take (i + m - at) (drop at l)) ≡ true
     zero-turn v e z =
         let f : i + m - at ≡ i - at + m = omega arith in
         let g : at + (i - at) ≡ i = omega arith in
         let d : drop (i - at) (drop at l) ≡ drop i l = drop-drop (i - at) at l ∙ rw g in
         rw (f, take-add (i - at) m (drop at l), d, zeros-append, inv, ← e, eq-eqb v 0 z)
 
-    pub turn-hit : (v : ℕ) → eqb v 0 ≡ zeros (take m (drop i l)) → (v ≡ 0 → ⊥) → false ≡ zeros (drop at l)
+    pub turn-hit : (v : ℕ) → eqb v 0 ≡ allZeros (take m (drop i l)) → (v ≡ 0 → ⊥) → false ≡ allZeros (drop at l)
     turn-hit v e z =
-        let d : zeros (drop i l) ≡ false = cut-here ∙ rw (← e, ne-eqb v 0 z) in
+        let d : allZeros (drop i l) ≡ false = cut-here ∙ rw (← e, ne-eqb v 0 z) in
         sym (cut at i low ∙ rw (inv, d))
       where
-        cut-here : zeros (drop i l) ≡ (zeros (take m (drop i l)) && zeros (drop m (drop i l)))
+        cut-here : allZeros (drop i l) ≡ (allZeros (take m (drop i l)) && allZeros (drop m (drop i l)))
         cut-here = rw (← zeros-append, take-append-drop)
 
     -- fewer than m are left: they are among the last m
-    pub zero-last : (n v : ℕ) → n ≡ length l → eqb v 0 ≡ zeros (take m (drop (n - m) l)) → m ≤ n - at → n - i < m → eqb v 0 ≡ zeros (drop at l)
+    pub zero-last : (n v : ℕ) → n ≡ length l → eqb v 0 ≡ allZeros (take m (drop (n - m) l)) → m ≤ n - at → n - i < m → eqb v 0 ≡ allZeros (drop at l)
     zero-last n v len e h k =
         let j : ℕ = n - m in
         let r : length (drop j l) ≤ m = simp length-drop (omega arith) in
         let f : i - at ≡ j - at + (i - j) = omega arith in
-        let p : zeros (take (j - at) (drop at l)) && zeros (take (i - j) (drop (j - at) (drop at l))) ≡ true = rw (f, take-add (j - at) (i - j) (drop at l), zeros-append) at inv in
-        e ∙ sym (cut at j (omega arith) ∙ rw (both (zeros (take (j - at) (drop at l))) (zeros (take (i - j) (drop (j - at) (drop at l)))) p .0, take-all m (drop j l) r))
+        let p : allZeros (take (j - at) (drop at l)) && allZeros (take (i - j) (drop (j - at) (drop at l))) ≡ true = rw (f, take-add (j - at) (i - j) (drop at l), zeros-append) at inv in
+        e ∙ sym (cut at j (omega arith) ∙ rw (both (allZeros (take (j - at) (drop at l))) (allZeros (take (i - j) (drop (j - at) (drop at l)))) p .0, take-all m (drop j l) r))
 
 -- zeros are zeros
-pub zeros-replicate : (l : List ℕ) → zeros l ≡ true → l ≡ replicate (length l) 0
-unfolding zeros
+pub zeros-replicate : (l : List ℕ) → allZeros l ≡ true → l ≡ replicate (length l) 0
+unfolding allZeros
 zeros-replicate [] h = refl
 zeros-replicate (b ∷ l) h =
-    let p = both (eqb b 0) (zeros l) h in
+    let p = both (eqb b 0) (allZeros l) h in
     ap₂ (λ (z : ℕ) (zs : List ℕ). z ∷ zs) (eqb-true b 0 (p .0)) (zeros-replicate l (p .1))
 
-pub replicate-zeros : (n : ℕ) → zeros (replicate n 0) ≡ true
-unfolding zeros
+pub replicate-zeros : (n : ℕ) → allZeros (replicate n 0) ≡ true
+unfolding allZeros
 replicate-zeros zero = refl
 replicate-zeros (suc n) = replicate-zeros n
 

@@ -13,9 +13,9 @@ use Rattle.records.specs.declared.table.Checked.{Checked}
 use Rattle.records.specs.declared.table.Checked.the-variants.{Total, Bad}
 
 -- every byte is 0
-unfoldable pub zeros : List ℕ → Bool
-zeros [] = true
-zeros (b ∷ l) = eqb b 0 && zeros l
+unfoldable pub allZeros : List ℕ → Bool
+allZeros [] = true
+allZeros (b ∷ l) = eqb b 0 && allZeros l
 
 -- a good list's total
 unfoldable pub checkedList : Kind → List Region → Checked
@@ -23,7 +23,7 @@ checkedList k xs = cond (goodList k xs) (Total (record { 0 = total (at xs) top }
 
 -- a part that holds n records of a good list, as many as it has room for, and then zeros
 unfoldable pub goodPart : Kind → ℕ → List ℕ → Bool
-goodPart k n l = leb n (length l / 24) && (goodList k (readRegions n l) && zeros (drop (24 * n) l))
+goodPart k n l = leb n (length l / 24) && (goodList k (readRegions n l) && allZeros (drop (24 * n) l))
 
 unfoldable pub checkedTable : Kind → ℕ → List ℕ → Checked
 checkedTable k n l = cond (goodPart k n l) (Total (record { 0 = total (at (readRegions n l)) top })) Bad

@@ -13,7 +13,7 @@ use Rattle.regions.specs.Lists.{rises}
 use Rattle.regions.specs.Bytes.{readRegions}
 use Rattle.records.specs.declared.table.Tally.{Tally}
 use Rattle.records.specs.Totals.{tally}
-use Rattle.records.specs.Checks.{zeros}
+use Rattle.records.specs.Checks.{allZeros}
 
 -- how many of the first regions end at or below an address: where a range that begins there begins among them
 unfoldable pub endingBy : ℕ → List Region → ℕ
@@ -27,15 +27,15 @@ pub record Halved (n looks : ℕ) : Type 0 where
   pub least : n < 2 ^ (looks + 1)
 
 -- each region's flags leave room for one more
-abbrev pub AllLight : List Region → Type 0
-AllLight [] = Unit {0}
-AllLight (r ∷ rs) = (r .tag .flags ≤ 7) × AllLight rs
+abbrev pub AllFlagsBounded : List Region → Type 0
+AllFlagsBounded [] = Unit {0}
+AllFlagsBounded (r ∷ rs) = (r .tag .flags ≤ 7) × AllFlagsBounded rs
 
 -- a table's bytes with count records of a shortest list
 pub record Table (t : List ℕ) (count : ℕ) : Type 0 where
   pub room : 24 * count ≤ length t
   pub rising : rises 0 Absent top (readRegions count t) ≡ true
-  pub light : AllLight (readRegions count t)
+  pub flags-bounded : AllFlagsBounded (readRegions count t)
 
 -- a list with others in the place of its regions from first up to, not including, stop
 unfoldable pub put : ℕ → ℕ → List Region → List Region → List Region
@@ -46,5 +46,5 @@ pub record Whole (t : List ℕ) (y : Tally) : Type 0 where
   pub table : Table t (y .count)
   pub even : length t ≡ 24 * (length t / 24)
   pub small : length t < 4294967296
-  pub rest : zeros (drop (24 * y .count) t) ≡ true
+  pub rest : allZeros (drop (24 * y .count) t) ≡ true
   pub total : y .total .0 ≡ total (at (readRegions (y .count) t)) top

@@ -10,7 +10,7 @@ ghost use Prim.Native.Nat.{_+_, _*_, _-_, _/_, _≤_};
 ghost use lib.ListN.{length, take, drop, replicate};
 ghost use lib.Seq.{sets};
 ghost use Rattle.regions.specs.Bytes.{readRegions, tableBytes};
-ghost use Rattle.records.specs.Checks.{zeros};
+ghost use Rattle.records.specs.Checks.{allZeros};
 ghost use Rattle.records.specs.Steps.{put};
 
 // Copies four records of `t` from one place to another.
@@ -85,7 +85,7 @@ fn shift(t: &mut [u8], count: usize, stop: usize, new: usize)
 
 // Puts the first `n` records of `src` in the place of those from `first` up to, not including, `stop`, in a table of `count` records with zeros behind.
 pub fn replace(t: &mut [u8], count: usize, first: usize, stop: usize, src: &[u8], n: usize)
-    requires { ⌜ ((first ≤ stop) × (stop ≤ count)) × (((24 * count ≤ length (now t)) × (24 * (count - stop + (first + n)) ≤ length (now t))) × ((24 * n ≤ length (now src)) × ((length (now t) ≡ 24 * (length (now t) / 24)) × (zeros (drop (24 * count) (now t)) ≡ true)))) ⌝ }
+    requires { ⌜ ((first ≤ stop) × (stop ≤ count)) × (((24 * count ≤ length (now t)) × (24 * (count - stop + (first + n)) ≤ length (now t))) × ((24 * n ≤ length (now src)) × ((length (now t) ≡ 24 * (length (now t) / 24)) × (allZeros (drop (24 * count) (now t)) ≡ true)))) ⌝ }
     ensures { λ _. ⌜ now (t .exit) ≡ tableBytes (length (now (t .entry)) / 24) (put first stop (readRegions n (now (src .entry))) (readRegions count (now (t .entry)))) ⌝ }
 {
     let from = 24 * first;
@@ -95,7 +95,7 @@ pub fn replace(t: &mut [u8], count: usize, first: usize, stop: usize, src: &[u8]
 
 // Puts one record in their place.
 pub fn replace_one(t: &mut [u8], count: usize, first: usize, stop: usize, r: Region)
-    requires { ⌜ ((first ≤ stop) × (stop ≤ count)) × (((24 * count ≤ length (now t)) × (24 * (count - stop + (first + 1)) ≤ length (now t))) × ((length (now t) ≡ 24 * (length (now t) / 24)) × (zeros (drop (24 * count) (now t)) ≡ true))) ⌝ }
+    requires { ⌜ ((first ≤ stop) × (stop ≤ count)) × (((24 * count ≤ length (now t)) × (24 * (count - stop + (first + 1)) ≤ length (now t))) × ((length (now t) ≡ 24 * (length (now t) / 24)) × (allZeros (drop (24 * count) (now t)) ≡ true))) ⌝ }
     ensures { λ _. ⌜ now (t .exit) ≡ tableBytes (length (now (t .entry)) / 24) (put first stop (r ∷ []) (readRegions count (now (t .entry)))) ⌝ }
 {
     shift(t, count, stop, first + 1);

@@ -17,7 +17,7 @@ ghost use mathlib.Core.Bool.{true};
 ghost use Rattle.regions.specs.declared.State.the-variants.{Absent};
 ghost use Rattle.regions.specs.Meaning.{end as endOf, at, total, top};
 ghost use Rattle.regions.specs.Lists.{rises};
-ghost use Rattle.records.specs.Checks.{zeros, checkedList, checkedTable};
+ghost use Rattle.records.specs.Checks.{allZeros, checkedList, checkedTable};
 ghost use Rattle.records.specs.Steps.{Table, Halved, endingBy};
 
 // How many records a table has, and how many addresses they say.
@@ -72,7 +72,7 @@ pub fn check_records(t: &[u8], count: usize, kind: Kind) -> Checked
 // Whether every byte from `at` on is 0.
 fn rest_zero(t: &[u8], at: usize) -> bool
     requires { ⌜ at ≤ length (now t) ⌝ }
-    ensures { λ b. ⌜ b ≡ zeros (drop at (now (t .entry))) ⌝ }
+    ensures { λ b. ⌜ b ≡ allZeros (drop at (now (t .entry))) ⌝ }
 {
     let mut i = at;
     while i < t.len() {
@@ -87,7 +87,7 @@ fn rest_zero(t: &[u8], at: usize) -> bool
 // The same, eight bytes at a time as far as they go.
 fn few_zero(t: &[u8], at: usize) -> bool
     requires { ⌜ at ≤ length (now t) ⌝ }
-    ensures { λ b. ⌜ b ≡ zeros (drop at (now (t .entry))) ⌝ }
+    ensures { λ b. ⌜ b ≡ allZeros (drop at (now (t .entry))) ⌝ }
 {
     let mut i = at;
     while 8 <= t.len() - i {
@@ -102,7 +102,7 @@ fn few_zero(t: &[u8], at: usize) -> bool
 // Four words joined: 0 exactly when the 32 bytes from `i` on are.
 fn any4(t: &[u8], i: usize) -> u64
     requires { ⌜ i + 32 ≤ length (now t) ⌝ }
-    ensures { λ r. ⌜ eqb r 0 ≡ zeros (take 32 (drop i (now (t .entry)))) ⌝ }
+    ensures { λ r. ⌜ eqb r 0 ≡ allZeros (take 32 (drop i (now (t .entry)))) ⌝ }
 {
     get_u64(t, i) | get_u64(t, i + 8) | get_u64(t, i + 16) | get_u64(t, i + 24)
 }
@@ -110,7 +110,7 @@ fn any4(t: &[u8], i: usize) -> u64
 // Sixteen words joined: 0 exactly when the 128 bytes from `i` on are.
 fn any16(t: &[u8], i: usize) -> u64
     requires { ⌜ i + 128 ≤ length (now t) ⌝ }
-    ensures { λ r. ⌜ eqb r 0 ≡ zeros (take 128 (drop i (now (t .entry)))) ⌝ }
+    ensures { λ r. ⌜ eqb r 0 ≡ allZeros (take 128 (drop i (now (t .entry)))) ⌝ }
 {
     any4(t, i) | any4(t, i + 32) | any4(t, i + 64) | any4(t, i + 96)
 }
@@ -118,7 +118,7 @@ fn any16(t: &[u8], i: usize) -> u64
 // Whether every byte from `at` on is 0, 128 at a time, and what is left with the last 128.
 pub fn all_zero(t: &[u8], at: usize) -> bool
     requires { ⌜ at ≤ length (now t) ⌝ }
-    ensures { λ b. ⌜ b ≡ zeros (drop at (now (t .entry))) ⌝ }
+    ensures { λ b. ⌜ b ≡ allZeros (drop at (now (t .entry))) ⌝ }
 {
     let n = t.len();
     let mut i = at;

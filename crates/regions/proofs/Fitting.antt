@@ -23,7 +23,7 @@ use Rattle.regions.specs.declared.Change.{Change}
 use Rattle.regions.specs.declared.Change.the-variants.{Fill, Clear, Mark, Unmark}
 use Rattle.regions.specs.Meaning.{end, joins, sameTag}
 use Rattle.regions.specs.Changes.{change, setFlag, clearFlag}
-use Rattle.regions.specs.Steps.{Weighs, Light}
+use Rattle.regions.specs.Steps.{FlagBounded, FlagsBounded}
 use Rattle.regions.specs.Lists.{is, fits, legalTag}
 
 -- ---- tags
@@ -177,11 +177,11 @@ module _ (k : Change) (v : State) where
     unfolding change
     unmark-present w t f g = rw (e, f) (ap Present (λ i. record { flags = g .0 i; node = g .1 i }))
 
-    pub light-flags : Light v → own .flags ≤ 7
-    light-flags l = rw e at l
+    pub flags-bounded-flags : FlagsBounded v → own .flags ≤ 7
+    flags-bounded-flags l = rw e at l
 
-  pub weighs-mark : (w : ℕ) → k ≡ Mark w → Weighs k → (0 < w) × (w ≤ 4)
-  weighs-mark w e h = rw e at h
+  pub flag-bounded-mark : (w : ℕ) → k ≡ Mark w → FlagBounded k → (0 < w) × (w ≤ 4)
+  flag-bounded-mark w e h = rw e at h
 
-  pub weighs-unmark : (w : ℕ) → k ≡ Unmark w → Weighs k → (0 < w) × (w ≤ 4)
-  weighs-unmark w e h = rw e at h
+  pub flag-bounded-unmark : (w : ℕ) → k ≡ Unmark w → FlagBounded k → (0 < w) × (w ≤ 4)
+  flag-bounded-unmark w e h = rw e at h

@@ -15,7 +15,7 @@ use Rattle.regions.specs.declared.Kind.{Kind}
 use Rattle.regions.specs.declared.Kind.the-variants.{Memory, Taken}
 use Rattle.regions.specs.Meaning.{at, total, top, top-is}
 use Rattle.regions.specs.Lists.{rises, legalTag, legal, goodList}
-use Rattle.regions.proofs.Rises.{Rises, done, next, Canonical, rises-Rises}
+use Rattle.regions.proofs.Rises.{Rises, ended, next, Canonical, rises-Rises}
 use Rattle.regions.proofs.Records.{Fit, AllFit, none, more}
 use Rattle.regions.proofs.Count.{sizes, total-sizes}
 use Rattle.regions.proofs.RoundTrip.{rises-end, round-trip}
@@ -53,7 +53,7 @@ legal-fits Taken t e =
 
 rises-fit : (k : Kind) {c : ℕ} {v : State} {xs : List Region} → Rises c v top xs → legal k xs ≡ true → AllFit xs
 unfolding legal
-rises-fit k (done l) e = none
+rises-fit k (ended l) e = none
 rises-fit k (next {r = r} {rs = rs} f w) e =
     let p = both (legalTag k (r .tag)) (legal k rs) e in
     let q = legal-fits k (r .tag) (p .0) in

@@ -10,7 +10,6 @@ pub mod RoundTrip
 pub mod Good
 pub mod Legal
 pub mod Prefix
-pub mod Twins
 pub mod Update
 pub mod Trim
 pub mod Lying

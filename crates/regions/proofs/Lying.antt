@@ -7,14 +7,14 @@ use mathlib.Core.Logic.{_⊎_, inl, inr}
 use native.Mathlib.Omega.{arith}
 use lib.Dec.{leb}
 use borrow.Author.Tests.{leb-true, leb-false, le-leb}
-use Rattle.address.proofs.Tests.{both, and, no, clash, le-or-lt}
+use Rattle.address.proofs.Tests.{both, and, no, clash, le-or-lt, zero-not-one}
 use Rattle.regions.specs.declared.Tag.{Tag}
 use Rattle.regions.specs.declared.Region.{Region}
 use Rattle.regions.specs.declared.State.{State}
 use Rattle.regions.specs.declared.State.the-variants.{Absent, Present}
 use Rattle.regions.specs.Meaning.{Meaning, end, at, shortest, top}
-use Rattle.regions.specs.Runs.{holds, inOne, runOf, runAt}
-use Rattle.regions.proofs.Rises.{Rises, done, next}
+use Rattle.regions.specs.Runs.{liesIn, inOne, runOf, runAt}
+use Rattle.regions.proofs.Rises.{Rises, ended, next}
 use Rattle.regions.proofs.RoundTrip.{inside-yes, inside-past, rises-end, rises-below, at-here, at-before, at-past, at-shortest, canonical-shortest}
 use Rattle.regions.proofs.Trim.{rises-apart}
 
@@ -34,13 +34,13 @@ or-true false = refl
 pub in-one : (p : Tag → Bool) (size a : ℕ) (t : Tag) {c n : ℕ} {v : State} {xs : List Region} → Rises c v n xs → 0 < size → p t ≡ true
     → ((b : ℕ) → a ≤ b → b < a + size → at xs b ≡ Present t) → inOne p size a xs ≡ true
 unfolding inOne at
-in-one p size a t (done l) s k h = let e = h a (omega arith) (omega arith) in let z : _≡_ {A = ℕ} 0 1 = cc in absurd (omega arith)
+in-one p size a t (ended l) s k h = let e = h a (omega arith) (omega arith) in absurd (zero-not-one cc)
 in-one p size a t (next {r = r} {rs = rs} f w) s k h = go (le-or-lt (r .base .0) a) (le-or-lt (end r) a) (in-one p size a t w s k)
   where
     here : r .base .0 ≤ a → a < end r → r .tag ≡ t
     here l m = let e = sym (at-here r rs a l m) ∙ h a (omega arith) (omega arith) in cc
 
-    whole : r .base .0 ≤ a → a < end r → (a + size ≤ end r) ⊎ (end r < a + size) → holds p size a r ≡ true
+    whole : r .base .0 ≤ a → a < end r → (a + size ≤ end r) ⊎ (end r < a + size) → liesIn p size a r ≡ true
     whole l m (inl i) =
         let j : p (r .tag) ≡ true = rw (here l m) k in
         and j (and (le-leb (r .base .0) a l) (le-leb (a + size) (end r) i))
@@ -48,12 +48,12 @@ in-one p size a t (next {r = r} {rs = rs} f w) s k h = go (le-or-lt (r .base .0)
         absurd (rises-apart w (sym (at-past r rs (end r) (omega arith)) ∙ h (end r) (omega arith) i ∙ ap Present (sym (here l m))))
 
     go : (r .base .0 ≤ a) ⊎ (a < r .base .0) → (end r ≤ a) ⊎ (a < end r)
-        → (((b : ℕ) → a ≤ b → b < a + size → at rs b ≡ Present t) → inOne p size a rs ≡ true) → holds p size a r || inOne p size a rs ≡ true
+        → (((b : ℕ) → a ≤ b → b < a + size → at rs b ≡ Present t) → inOne p size a rs ≡ true) → liesIn p size a r || inOne p size a rs ≡ true
     go (inl l) (inr m) ih = rw (whole l m (le-or-lt (a + size) (end r)))
-    go (inl l) (inl m) ih = rw (ih (λ b i j. sym (at-past r rs b (omega arith)) ∙ h b i j)) (or-true (holds p size a r))
+    go (inl l) (inl m) ih = rw (ih (λ b i j. sym (at-past r rs b (omega arith)) ∙ h b i j)) (or-true (liesIn p size a r))
     go (inr l) m ih =
         let e = sym (at-before r rs a l ∙ rises-below a w (omega arith)) ∙ h a (omega arith) (omega arith) in
-        let z : _≡_ {A = ℕ} 0 1 = cc in absurd (omega arith)
+        absurd (zero-not-one cc)
 
 -- and what lies in one region is a stretch of one tag, from c on and below n
 pub record Stretch (xs : List Region) (p : Tag → Bool) (size a c n : ℕ) : Type 0 where
@@ -63,10 +63,10 @@ pub record Stretch (xs : List Region) (p : Tag → Bool) (size a c n : ℕ) : Ty
 
 pub one-in : (p : Tag → Bool) (size a : ℕ) {c n : ℕ} {v : State} {xs : List Region} → Rises c v n xs → inOne p size a xs ≡ true → Stretch xs p size a c n
 unfolding inOne
-one-in p size a (done l) e = let z : _≡_ {A = ℕ} 0 1 = cc in absurd (omega arith)
-one-in p size a {c} {n} {v} (next {r = r} {rs = rs} f w) e = go (holds p size a r) refl e (one-in p size a w)
+one-in p size a (ended l) e = absurd (zero-not-one cc)
+one-in p size a {c} {n} {v} (next {r = r} {rs = rs} f w) e = go (liesIn p size a r) refl e (one-in p size a w)
   where
-    go : (t : Bool) → holds p size a r ≡ t → t || inOne p size a rs ≡ true → (inOne p size a rs ≡ true → Stretch rs p size a (end r) n)
+    go : (t : Bool) → liesIn p size a r ≡ t → t || inOne p size a rs ≡ true → (inOne p size a rs ≡ true → Stretch rs p size a (end r) n)
         → Stretch (r ∷ rs) p size a c n
     go true h e ih =
         let o = both (p (r .tag)) (leb (r .base .0) a && leb (a + size) (end r)) h in
@@ -150,14 +150,14 @@ pub record Lies (xs : List Region) (t : Tag) (a : ℕ) : Type 0 where
 
 pub run-of : {c n : ℕ} {v : State} {xs : List Region} (t : Tag) (a : ℕ) → Rises c v n xs → at xs a ≡ Present t → Lies xs t a
 unfolding at
-run-of t a (done l) e = let z : _≡_ {A = ℕ} 0 1 = cc in absurd (omega arith)
+run-of t a (ended l) e = absurd (zero-not-one cc)
 run-of t a (next {r = r} {rs = rs} k w) e = go (run-of t a w) (le-or-lt (r .base .0) a) (le-or-lt (end r) a)
   where
     from : (s : Lies rs t a) → (end r ≤ s .lo) ⊎ (s .lo < end r) → end r ≤ s .lo
     from s (inl x) = x
     from s (inr x) =
         let d = sym (rises-below (s .lo) w x) ∙ s .run .all (s .lo) (omega arith) (omega (arith, s .low, s .high)) in
-        let z : _≡_ {A = ℕ} 0 1 = cc in absurd (omega arith)
+        absurd (zero-not-one cc)
 
     before : (s : Lies rs t a) → end r ≤ s .lo → (b : ℕ) → suc b ≡ s .lo → at (r ∷ rs) b ≡ Present t → (end r ≤ b) ⊎ (b < end r) → ⊥
     before s m b y f (inl x) = s .run .begins b y (sym (at-past r rs b x) ∙ f)
@@ -168,13 +168,13 @@ run-of t a (next {r = r} {rs = rs} k w) e = go (run-of t a w) (le-or-lt (r .base
     go : (at rs a ≡ Present t → Lies rs t a) → (r .base .0 ≤ a) ⊎ (a < r .base .0) → (end r ≤ a) ⊎ (a < end r) → Lies (r ∷ rs) t a
     go ih (inr i) j =
         let d = sym (at-before r rs a i ∙ rises-below a w (omega arith)) ∙ e in
-        let z : _≡_ {A = ℕ} 0 1 = cc in absurd (omega arith)
+        absurd (zero-not-one cc)
     go ih (inl i) (inr j) =
         let d : Present (r .tag) ≡ Present t = sym (at-here r rs a i j) ∙ e in
         let o : Longest (r ∷ rs) t (r .base .0) (end r) = record {
           all = λ b x y. at-here r rs b x y ∙ d;
           stops = λ f. rises-apart w (sym (at-past r rs (end r) (omega arith)) ∙ f ∙ sym d);
-          begins = λ b y f. let x = sym (at-before r rs b (omega arith) ∙ rises-below b w (omega arith)) ∙ f in let z : _≡_ {A = ℕ} 0 1 = cc in omega arith;
+          begins = λ b y f. let x = sym (at-before r rs b (omega arith) ∙ rises-below b w (omega arith)) ∙ f in absurd (zero-not-one cc);
         } in
         record { lo = r .base .0; hi = end r; low = i; high = j; run = o; is = run-here r rs a i j }
     go ih (inl i) (inl j) =

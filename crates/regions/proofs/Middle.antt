@@ -5,14 +5,14 @@ use mathlib.Core.Bool.{Bool, true, false, cond}
 use mathlib.Core.List.{List, [], _∷_, _++_}
 use mathlib.Core.Logic.{_⊎_, inl, inr}
 use native.Mathlib.Omega.{arith}
-use Rattle.address.proofs.Tests.{le-or-lt}
+use Rattle.address.proofs.Tests.{le-or-lt, zero-not-one}
 use Rattle.regions.specs.declared.Tag.{Tag}
 use Rattle.regions.specs.declared.Region.{Region}
 use Rattle.regions.specs.declared.State.{State}
 use Rattle.regions.specs.declared.State.the-variants.{Absent, Present}
 use Rattle.regions.specs.Meaning.{Meaning, region, end, inside, at, join, shortest}
 use Rattle.regions.specs.Changes.{after}
-use Rattle.regions.proofs.Rises.{Fits, Rises, done, next, Canonical, reach, edge}
+use Rattle.regions.proofs.Rises.{Fits, Rises, ended, next, Canonical, reach, edge}
 use Rattle.regions.proofs.Push.{push-to}
 use Rattle.regions.proofs.RoundTrip.{Stops, stops-snoc, retrace, rises-end, rises-below, rises-above, at-here, at-before, at-past, rises-weaken, canonical-shortest, at-shortest, push-absent, inside-below, inside-past}
 use Rattle.regions.proofs.Prefix.{start-behind, reach-le, rest-rises, rest-at}
@@ -38,7 +38,7 @@ stops (r ∷ q ∷ rs) b s t l u = ap {B = List Region} (λ x. r ∷ x) (stops (
 
 rises-append : (xs zs : List Region) {c e n : ℕ} {v : State} → Rises c v e xs → Rises (reach c xs) (edge v xs) n zs → Rises c v n (xs ++ zs)
 unfolding reach edge
-rises-append [] zs (done l) w = w
+rises-append [] zs (ended l) w = w
 rises-append (r ∷ xs) zs (next k q) w = next k (rises-append xs zs q w)
 
 starts-low : (zs : List Region) {c n : ℕ} {v : State} → Rises c v n zs → c ≤ starts n zs
@@ -52,7 +52,7 @@ starts-below [] a w h = refl
 starts-below (z ∷ zs) a (next k w) h = at-before z zs a h ∙ rises-below a w (omega arith)
 
 pub upto : (xs zs : List Region) {c n : ℕ} {v : State} → Rises c v n (xs ++ zs) → Rises c v (starts n zs) xs
-upto [] zs w = done (starts-low zs w)
+upto [] zs w = ended (starts-low zs w)
 upto (r ∷ xs) zs (next k w) = next k (upto xs zs w)
 
 starts-end : (zs : List Region) {c n : ℕ} {v : State} → Rises c v n zs → starts n zs ≤ n
@@ -78,7 +78,7 @@ reach-some (r ∷ ys) zs t (next j w) z f = omega (arith, j .some, reach-le ys (
 -- a rising list does not begin with the state of the address below
 rises-here : {c n : ℕ} {v : State} {xs : List Region} (t : Tag) → Rises c v n xs → at xs c ≡ Present t → v ≡ Present t → ⊥
 unfolding at
-rises-here t (done l) e f = let z : Absent ≡ Present t = e in let y : _≡_ {A = ℕ} 0 1 = cc in omega arith
+rises-here t (ended l) e f = let z : Absent ≡ Present t = e in let y : _≡_ {A = ℕ} 0 1 = cc in omega arith
 rises-here {c} {n} {v} t (next {r = r} {rs = rs} k w) e f = go (le-or-lt (r .base .0) c)
   where
     go : (r .base .0 ≤ c) ⊎ (c < r .base .0) → ⊥
@@ -93,7 +93,7 @@ rises-here {c} {n} {v} t (next {r = r} {rs = rs} k w) e f = go (le-or-lt (r .bas
 -- a shortest list that says nothing below c, and at c not what is below, rises from c
 rises-from : (xs : List Region) {n : ℕ} (c : ℕ) (v : State) → Canonical n xs → c ≤ n → ((a : ℕ) → a < c → at xs a ≡ Absent)
     → ((t : Tag) → at xs c ≡ Present t → v ≡ Present t → ⊥) → Rises c v n xs
-rises-from [] c v w l h u = done l
+rises-from [] c v w l h u = ended l
 rises-from (r ∷ rs) c v (next k w) l h u =
     let low : c ≤ r .base .0 = go (le-or-lt c (r .base .0)) in
     let f : Fits c v r = record { low = low; apart = λ x y. u (r .tag) (at-here r rs c (omega arith) (omega (arith, k .some))) y; some = k .some } in
@@ -108,9 +108,9 @@ rises-from (r ∷ rs) c v (next k w) l h u =
 
 -- a part of a rising list is a shortest list
 rises-from-zero : (xs : List Region) {c n : ℕ} {v : State} → Rises c v n xs → Canonical n xs
-rises-from-zero [] {n = n} w = let h : 0 ≤ n = omega arith in done h
+rises-from-zero [] {n = n} w = let h : 0 ≤ n = omega arith in ended h
 rises-from-zero (r ∷ rs) {c} (next k w) =
-    let f : Fits 0 Absent r = record { low = omega arith; apart = λ x y. let z : _≡_ {A = ℕ} 0 1 = cc in omega arith; some = k .some } in
+    let f : Fits 0 Absent r = record { low = omega arith; apart = λ x y. absurd (zero-not-one cc); some = k .some } in
     next f w
 
 pub canonical-part : (ys xs zs : List Region) {n : ℕ} → Canonical n (ys ++ (xs ++ zs)) → Canonical n xs
@@ -224,7 +224,7 @@ module _ (k : State → State) (lo hi n : ℕ) (ys xs zs : List Region) (l : lo 
     where
       go : (us : List Region) → Above hi us → Rises (reach 0 ys) (edge Absent ys) n (xs ++ us) → Rises (reach (reach 0 ys) xs) (edge (edge Absent ys) xs) n us
           → Rises (reach 0 ys) (edge Absent ys) (starts n us) (shortest part n) → Rises (reach (reach 0 ys) (shortest part n)) (edge (edge Absent ys) (shortest part n)) n us
-      go [] h u (done j) v = done (reach-end (shortest part n) v)
+      go [] h u (ended j) v = ended (reach-end (shortest part n) v)
       go (z ∷ us) h u (next j d) v =
           let e = reach-end (shortest part n) v in
           let a : ℕ = z .base .0 - 1 in

@@ -7,13 +7,13 @@ use Rattle.regions.specs.declared.Region.{Region}
 use Rattle.regions.specs.declared.State.{State}
 use Rattle.regions.specs.Meaning.{at, shortest}
 use Rattle.regions.specs.Changes.{after}
-use Rattle.regions.proofs.Rises.{Rises, done, next, Canonical, reach, edge}
+use Rattle.regions.proofs.Rises.{Rises, ended, next, Canonical, reach, edge}
 use Rattle.regions.proofs.Count.{agree}
 use Rattle.regions.proofs.RoundTrip.{rises-below, round-trip, inside-below, at-past}
 
 first-rises : (ys zs : List Region) {c n : ℕ} {v : State} → Rises c v n (ys ++ zs) → Rises c v (reach c ys) ys
 unfolding reach
-first-rises [] zs {c = c} w = let h : c ≤ c = omega arith in done h
+first-rises [] zs {c = c} w = let h : c ≤ c = omega arith in ended h
 first-rises (r ∷ ys) zs (next k w) = next k (first-rises ys zs w)
 
 pub reach-le : (ys : List Region) {c n : ℕ} {v : State} → Rises c v n ys → c ≤ reach c ys

@@ -8,7 +8,7 @@ use native.Mathlib.Nat.{add-assoc, add-zero, add-suc}
 use native.Mathlib.Numerals.{add-one}
 use lib.Dec.{eqb}
 use borrow.Author.Tests.{eq-eqb, eqb-true}
-use Rattle.address.proofs.Tests.{both, and}
+use Rattle.address.proofs.Tests.{both, and, zero-not-one}
 use Rattle.regions.specs.declared.Tag.{Tag}
 use Rattle.regions.specs.declared.Region.{Region}
 use Rattle.regions.specs.declared.State.{State}
@@ -34,7 +34,7 @@ joins-yes : (r : Region) (c : ℕ) (t : Tag) → end r ≡ c → r .tag ≡ t �
 joins-yes r c t p q = and (eq-eqb (end r) c p) (rw q (same-self t))
 
 pub joins-no : (r : Region) (c : ℕ) (t : Tag) → joins r c t ≡ false → end r ≡ c → r .tag ≡ t → ⊥
-joins-no r c t e p q = let f = joins-yes r c t p q in let z : _≡_ {A = ℕ} 0 1 = cc in omega arith
+joins-no r c t e p q = let f = joins-yes r c t p q in absurd (zero-not-one cc)
 
 -- ---- join twice is join once
 

@@ -6,7 +6,7 @@ use mathlib.Core.List.{List, [], _∷_}
 use native.Mathlib.Omega.{arith}
 use lib.Dec.{leb, ltb, eqb}
 use borrow.Author.Tests.{ltb-true, lt-ltb, le-leb, leb-true, eq-eqb, eqb-true, not-true}
-use Rattle.address.proofs.Tests.{both, and}
+use Rattle.address.proofs.Tests.{both, and, zero-not-one}
 use Rattle.regions.specs.declared.Tag.{Tag}
 use Rattle.regions.specs.declared.Region.{Region}
 use Rattle.regions.specs.declared.State.{State}
@@ -23,7 +23,7 @@ pub record Fits (c : ℕ) (v : State) (r : Region) : Type 0 where
 
 -- each region fits in turn, and none passes n
 pub data Rises : ℕ → State → ℕ → List Region → Type 0 where
-  done : {c n : ℕ} {v : State} → c ≤ n → Rises c v n []
+  ended : {c n : ℕ} {v : State} → c ≤ n → Rises c v n []
   next : {c n : ℕ} {v : State} {r : Region} {rs : List Region} → Fits c v r → Rises (end r) (Present (r .tag)) n rs → Rises c v n (r ∷ rs)
 
 -- a shortest list with no record past n
@@ -57,7 +57,7 @@ fits-Fits c v r e =
     let n = not-true (eqb c (r .base .0) && is v (r .tag)) (q .0) in
     record {
       low = leb-true c (r .base .0) (p .0);
-      apart = λ x y. let m = and (eq-eqb c (r .base .0) x) (is-yes v (r .tag) y) in let z : _≡_ {A = ℕ} 0 1 = cc in omega arith;
+      apart = λ x y. let m = and (eq-eqb c (r .base .0) x) (is-yes v (r .tag) y) in absurd (zero-not-one cc);
       some = ltb-true 0 (r .size .0) (q .1);
     }
 
@@ -71,12 +71,12 @@ Fits-fits c v r f = and (le-leb c (r .base .0) (f .low)) (and (go (eqb c (r .bas
 
 pub rises-Rises : (c : ℕ) (v : State) (n : ℕ) (xs : List Region) → rises c v n xs ≡ true → Rises c v n xs
 unfolding rises
-rises-Rises c v n [] e = done (leb-true c n e)
+rises-Rises c v n [] e = ended (leb-true c n e)
 rises-Rises c v n (r ∷ rs) e =
     let p = both (fits c v r) (rises (end r) (Present (r .tag)) n rs) e in
     next (fits-Fits c v r (p .0)) (rises-Rises (end r) (Present (r .tag)) n rs (p .1))
 
 pub Rises-rises : {c n : ℕ} {v : State} {xs : List Region} → Rises c v n xs → rises c v n xs ≡ true
 unfolding rises
-Rises-rises {c} {n} (done l) = le-leb c n l
+Rises-rises {c} {n} (ended l) = le-leb c n l
 Rises-rises {c} {n} {v} (next {r = r} f w) = and (Fits-fits c v r f) (Rises-rises w)

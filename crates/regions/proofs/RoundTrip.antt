@@ -10,13 +10,13 @@ use native.Mathlib.Numerals.{add-one}
 use lib.Dec.{leb, ltb}
 use lib.Seq.{append-snoc}
 use borrow.Author.Tests.{ltb-true, lt-ltb, le-ltb, le-leb, lt-leb}
-use Rattle.address.proofs.Tests.{both, le-or-lt}
+use Rattle.address.proofs.Tests.{both, le-or-lt, zero-not-one}
 use Rattle.regions.specs.declared.Tag.{Tag}
 use Rattle.regions.specs.declared.Region.{Region}
 use Rattle.regions.specs.declared.State.{State}
 use Rattle.regions.specs.declared.State.the-variants.{Absent, Present}
 use Rattle.regions.specs.Meaning.{Meaning, region, end, inside, at, joins, join, push, shortest}
-use Rattle.regions.proofs.Rises.{Fits, Rises, done, next, Canonical}
+use Rattle.regions.proofs.Rises.{Fits, Rises, ended, next, Canonical}
 use Rattle.regions.proofs.Push.{joins-true, joins-no, push-shortest, push-to}
 use Rattle.regions.proofs.Count.{agree}
 
@@ -57,17 +57,17 @@ at-cons r xs ys a e = rw e
 -- ---- a rising list says nothing outside its bounds
 
 pub rises-end : {c n : ℕ} {v : State} {xs : List Region} → Rises c v n xs → c ≤ n
-rises-end (done l) = l
+rises-end (ended l) = l
 rises-end (next {r = r} k w) = omega (arith, rises-end w)
 
 pub rises-below : {c n : ℕ} {v : State} {xs : List Region} (a : ℕ) → Rises c v n xs → a < c → at xs a ≡ Absent
 unfolding at
-rises-below a (done l) h = refl
+rises-below a (ended l) h = refl
 rises-below a (next {r = r} {rs = rs} k w) h = at-before r rs a (omega arith) ∙ rises-below a w (omega arith)
 
 pub rises-above : {c n : ℕ} {v : State} {xs : List Region} (a : ℕ) → Rises c v n xs → n ≤ a → at xs a ≡ Absent
 unfolding at
-rises-above a (done l) h = refl
+rises-above a (ended l) h = refl
 rises-above a (next {r = r} {rs = rs} k w) h = at-past r rs a (omega (arith, rises-end w)) ∙ rises-above a w h
 
 -- ---- from a rising list to its meaning and back
@@ -102,7 +102,7 @@ stops-snoc ys r b s t l u = join-snoc ys r b s t ∙ go (joins r b t) refl
 pub retrace : (g : Meaning) (ys : List Region) {c n : ℕ} {v : State} {xs : List Region} → Rises c v n xs → shortest g c ≡ ys → Stops ys c v
     → ((a : ℕ) → c ≤ a → a < n → g a ≡ at xs a) → shortest g n ≡ ys ++ xs
 unfolding at
-retrace g ys {c} {n} (done l) e st h = push-to g c n Absent l h ∙ push-absent (shortest g c) c (n - c) ∙ e ∙ sym (append-nil ys)
+retrace g ys {c} {n} (ended l) e st h = push-to g c n Absent l h ∙ push-absent (shortest g c) c (n - c) ∙ e ∙ sym (append-nil ys)
 retrace g ys {c} {n} (next {r = r} {rs = rs} k w) e st h =
     let m = rises-end w in
     let gap : shortest g (r .base .0) ≡ ys = push-to g c (r .base .0) Absent (k .low)
@@ -125,15 +125,15 @@ unique n xs ys p q h = sym (round-trip n xs p) ∙ agree (at xs) (at ys) n h ∙
 
 -- `done` with what it speaks of written out: omega wants its goal known
 last : (c : ℕ) (v : State) (n : ℕ) → c ≤ n → Rises c v n []
-last c v n l = done l
+last c v n l = ended l
 
 join-rises : (xs : List Region) {c : ℕ} {v : State} (b s : ℕ) (t : Tag) → Rises c v b xs → 0 < s → (xs ≡ [] → c ≡ b → v ≡ Present t → ⊥)
     → Rises c v (b + s) (join xs b s t)
 unfolding join
-join-rises [] {c} {v} b s t (done l) h u =
+join-rises [] {c} {v} b s t (ended l) h u =
     let f : Fits c v (region b s t) = record { low = l; apart = u refl; some = h } in
     next f (last (b + s) (Present t) (b + s) (omega arith))
-join-rises (r ∷ []) {c} {v} b s t (next k (done m)) h u = go (joins r b t) refl
+join-rises (r ∷ []) {c} {v} b s t (next k (ended m)) h u = go (joins r b t) refl
   where
     go : (k : Bool) → joins r b t ≡ k → Rises c v (b + s) (cond (joins r b t) (region (r .base .0) (r .size .0 + s) t ∷ []) (r ∷ region b s t ∷ []))
     go true e =
@@ -143,17 +143,17 @@ join-rises (r ∷ []) {c} {v} b s t (next k (done m)) h u = go (joins r b t) ref
     go false e =
         let f : Fits (end r) (Present (r .tag)) (region b s t) = record { low = m; apart = λ x y. joins-no r b t e x (cc); some = h } in
         rw e (next k (next f (last (b + s) (Present t) (b + s) (omega arith))))
-join-rises (r ∷ q ∷ rs) b s t (next k w) h u = next k (join-rises (q ∷ rs) b s t w h (λ e. let z : _≡_ {A = ℕ} 0 1 = cc in omega arith))
+join-rises (r ∷ q ∷ rs) b s t (next k w) h u = next k (join-rises (q ∷ rs) b s t w h (λ e. absurd (zero-not-one cc)))
 
 pub rises-weaken : {c n : ℕ} (m : ℕ) {v : State} {xs : List Region} → Rises c v n xs → n ≤ m → Rises c v m xs
-rises-weaken {c} m {v} (done l) h = last c v m (omega arith)
+rises-weaken {c} m {v} (ended l) h = last c v m (omega arith)
 rises-weaken m (next k w) h = next k (rises-weaken m w h)
 
 push-rises : (xs : List Region) (b s : ℕ) (v : State) → Canonical b xs → Canonical (b + s) (push xs b s v)
 unfolding push
 push-rises xs b s Absent w = rises-weaken (b + s) w (omega arith)
 push-rises xs b zero (Present t) w = rises-weaken (b + 0) w (omega arith)
-push-rises xs b (suc s) (Present t) w = join-rises xs b (suc s) t w (omega arith) (λ e p q. let z : _≡_ {A = ℕ} 0 1 = cc in omega arith)
+push-rises xs b (suc s) (Present t) w = join-rises xs b (suc s) t w (omega arith) (λ e p q. absurd (zero-not-one cc))
 
 pub canonical-shortest : (f : Meaning) (n : ℕ) → Canonical n (shortest f n)
 unfolding shortest
@@ -163,7 +163,7 @@ canonical-shortest f (suc n) = rw add-one at (push-rises (shortest f n) n 1 (f n
 join-at : (xs : List Region) {c : ℕ} {v : State} (b s : ℕ) (t : Tag) (a : ℕ) → Rises c v b xs → b ≤ a → a < b + s → at (join xs b s t) a ≡ Present t
 unfolding join
 join-at [] b s t a w l m = at-here (region b s t) [] a l m
-join-at (r ∷ []) b s t a (next k (done j)) l m = go (joins r b t) refl
+join-at (r ∷ []) b s t a (next k (ended j)) l m = go (joins r b t) refl
   where
     go : (k : Bool) → joins r b t ≡ k → at (cond (joins r b t) (region (r .base .0) (r .size .0 + s) t ∷ []) (r ∷ region b s t ∷ [])) a ≡ Present t
     go true e =

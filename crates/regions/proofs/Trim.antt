@@ -2,14 +2,14 @@
 use Prim.Native.Nat.{ℕ, zero, suc, _+_, _-_, _≤_, _<_}
 use mathlib.Core.Path.{_≡_, refl, sym, ap, _∙_}
 use mathlib.Core.Bool.{Bool, true, false, cond}
-use mathlib.Core.List.{List, [], _∷_}
+use mathlib.Core.List.{List, [], _∷_, _++_}
 use mathlib.Core.Logic.{_⊎_, inl, inr}
 use native.Mathlib.Omega.{arith}
 use lib.Dec.{ltb}
 use lib.ListN.{length}
 use borrow.Author.Tests.{ltb-true, ltb-false, lt-ltb, le-ltb, le-leb, lt-leb}
 use Rattle.address.specs.Numbers.{up, down}
-use Rattle.address.proofs.Tests.{both, and, no, le-or-lt}
+use Rattle.address.proofs.Tests.{both, and, no, le-or-lt, zero-not-one}
 use Rattle.address.proofs.Rounding.{up-ge, up-multiple, up-least, down-le, down-near, down-multiple, down-most, next-multiple}
 use Rattle.regions.specs.declared.Kind.{Kind}
 use Rattle.regions.specs.declared.Tag.{Tag}
@@ -20,7 +20,7 @@ use Rattle.regions.specs.Meaning.{Meaning, top, region, end, inside, at}
 use Rattle.regions.specs.Lists.{legalTag, legal}
 use Rattle.regions.specs.Trim.{sameState, throughout, trimmed, roundEach, trimmedList}
 use Rattle.regions.proofs.Push.{same-true, same-self}
-use Rattle.regions.proofs.Rises.{Fits, Rises, done, next, Canonical}
+use Rattle.regions.proofs.Rises.{Fits, Rises, ended, next, Canonical}
 use Rattle.regions.proofs.Count.{agree}
 use Rattle.regions.proofs.RoundTrip.{rises-below, inside-below, inside-past, at-here, at-before, at-past, round-trip}
 
@@ -59,7 +59,7 @@ module _ (f : Meaning) (v : State) (a : ℕ) where
 
 -- a list that may follow at c may follow lower down, behind any state; at c itself, behind the same
 pub lower : {c n : ℕ} {v : State} {xs : List Region} (b : ℕ) (u : State) → Rises c v n xs → b ≤ c → (b ≡ c → u ≡ v) → Rises b u n xs
-lower {c} {n} b u (done l) h e = let m : b ≤ n = omega arith in done m
+lower {c} {n} b u (ended l) h e = let m : b ≤ n = omega arith in ended m
 lower {c} {v = v} b u (next {r = r} f w) h e =
     let g : Fits b u r = record {
       low = omega arith;
@@ -71,7 +71,7 @@ lower {c} {v = v} b u (next {r = r} f w) h e =
 -- what follows a region at its end has not its tag there
 pub rises-apart : {c n : ℕ} {t : Tag} {xs : List Region} → Rises c (Present t) n xs → at xs c ≡ Present t → ⊥
 unfolding at
-rises-apart (done l) e = let z : _≡_ {A = ℕ} 0 1 = cc in omega arith
+rises-apart (ended l) e = absurd (zero-not-one cc)
 rises-apart {c} {t = t} (next {r = r} {rs = rs} f w) e = go (le-or-lt (r .base .0) c)
   where
     go : (r .base .0 ≤ c) ⊎ (c < r .base .0) → ⊥
@@ -80,16 +80,16 @@ rises-apart {c} {t = t} (next {r = r} {rs = rs} f w) e = go (le-or-lt (r .base .
         f .apart b (sym e ∙ at-here r rs c h (omega arith))
     go (inr h) =
         let p = sym (at-before r rs c h ∙ rises-below c w (omega arith)) ∙ e in
-        let z : _≡_ {A = ℕ} 0 1 = cc in omega arith
+        absurd (zero-not-one cc)
 
 module _ (k : ℕ) (pos : 0 < k) where
   pub round-rises : {c n : ℕ} {v : State} {xs : List Region} → Rises c v n xs → Rises c v n (roundEach k xs)
   unfolding roundEach
-  round-rises (done l) = done l
+  round-rises (ended l) = ended l
   round-rises {c} {n} {v} (next {r = r} {rs = rs} f w) = go (ltb (up (r .base .0) k) (down (end r) k)) refl (round-rises w)
     where
       go : (b : Bool) → ltb (up (r .base .0) k) (down (end r) k) ≡ b → Rises (end r) (Present (r .tag)) n (roundEach k rs)
-          → Rises c v n (cond b (region (up (r .base .0) k) (down (end r) k - up (r .base .0) k) (r .tag) ∷ roundEach k rs) (roundEach k rs))
+          → Rises c v n (cond b (region (up (r .base .0) k) (down (end r) k - up (r .base .0) k) (r .tag) ∷ []) [] ++ roundEach k rs)
       go true e i =
           let x : ℕ = up (r .base .0) k in
           let y : ℕ = down (end r) k in
@@ -125,7 +125,7 @@ module _ (k : ℕ) (pos : 0 < k) where
             side : (c ≤ b) ⊎ (b < c) → ⊥
             side (inl i) =
                 let q = sym (h b i ∙ at-before r rs b (omega arith) ∙ rises-below b w (omega arith)) ∙ p in
-                let z : _≡_ {A = ℕ} 0 1 = cc in omega arith
+                absurd (zero-not-one cc)
             side (inr i) =
                 let x : c - 1 ≡ b = omega arith in
                 f .apart (omega arith) (sym (s (omega arith)) ∙ ap g x ∙ p)
@@ -164,7 +164,7 @@ module _ (k : ℕ) (pos : 0 < k) where
     round-at : {c n : ℕ} {v : State} {xs : List Region} (a : ℕ) → Rises c v n xs → ((b : ℕ) → c ≤ b → g b ≡ at xs b) → (0 < c → g (c - 1) ≡ v) → c ≤ a
         → at (roundEach k xs) a ≡ cond (throughout g (g a) (down a k) k) (g a) Absent
     unfolding roundEach at
-    round-at a (done l) h s m = rw (h a m) (nothing (throughout g Absent (down a k) k))
+    round-at a (ended l) h s m = rw (h a m) (nothing (throughout g Absent (down a k) k))
       where
         nothing : (b : Bool) → Absent ≡ cond b Absent Absent
         nothing true = refl
@@ -178,7 +178,7 @@ module _ (k : ℕ) (pos : 0 < k) where
         nothing false = refl
 
         kept : (b : Bool) → ltb (up (r .base .0) k) (down (end r) k) ≡ b → a < end r
-            → at (cond b (region (up (r .base .0) k) (down (end r) k - up (r .base .0) k) (r .tag) ∷ roundEach k rs) (roundEach k rs)) a
+            → at (cond b (region (up (r .base .0) k) (down (end r) k - up (r .base .0) k) (r .tag) ∷ []) [] ++ roundEach k rs) a
             ≡ cond (inside (up (r .base .0) k) (down (end r) k) a) (Present (r .tag)) Absent
         kept true e i =
             let x : ℕ = up (r .base .0) k in
@@ -195,7 +195,7 @@ module _ (k : ℕ) (pos : 0 < k) where
             out l (inr j) = rw (inside-below (up (r .base .0) k) (down (end r) k) a j)
 
         past : end r ≤ a → (b : Bool) → ltb (up (r .base .0) k) (down (end r) k) ≡ b
-            → at (cond b (region (up (r .base .0) k) (down (end r) k - up (r .base .0) k) (r .tag) ∷ roundEach k rs) (roundEach k rs)) a ≡ at (roundEach k rs) a
+            → at (cond b (region (up (r .base .0) k) (down (end r) k - up (r .base .0) k) (r .tag) ∷ []) [] ++ roundEach k rs) a ≡ at (roundEach k rs) a
         past i true e =
             let x : ℕ = up (r .base .0) k in
             let y : ℕ = down (end r) k in
@@ -205,7 +205,7 @@ module _ (k : ℕ) (pos : 0 < k) where
 
         go : (b : Bool) → ltb (up (r .base .0) k) (down (end r) k) ≡ b → (r .base .0 ≤ a) ⊎ (a < r .base .0) → (end r ≤ a) ⊎ (a < end r)
             → (end r ≤ a → at (roundEach k rs) a ≡ cond (throughout g (g a) (down a k) k) (g a) Absent)
-            → at (cond b (region (up (r .base .0) k) (down (end r) k - up (r .base .0) k) (r .tag) ∷ roundEach k rs) (roundEach k rs)) a
+            → at (cond b (region (up (r .base .0) k) (down (end r) k - up (r .base .0) k) (r .tag) ∷ []) [] ++ roundEach k rs) a
             ≡ cond (throughout g (g a) (down a k) k) (g a) Absent
         go b e (inr i) (inl j) ih = absurd (omega arith)
         go b e (inr i) (inr j) ih =
@@ -232,7 +232,7 @@ round-length k [] = omega arith
 round-length k (r ∷ rs) = go (ltb (up (r .base .0) k) (down (end r) k)) (round-length k rs)
   where
     go : (b : Bool) → length (roundEach k rs) ≤ length rs
-        → length (cond b (region (up (r .base .0) k) (down (end r) k - up (r .base .0) k) (r .tag) ∷ roundEach k rs) (roundEach k rs)) ≤ suc (length rs)
+        → length (cond b (region (up (r .base .0) k) (down (end r) k - up (r .base .0) k) (r .tag) ∷ []) [] ++ roundEach k rs) ≤ suc (length rs)
     go true h = omega arith
     go false h = omega arith
 
@@ -244,6 +244,6 @@ round-legal n k (r ∷ rs) h = go (both (legalTag k (r .tag)) (legal k rs) h .0)
     (ltb (up (r .base .0) n) (down (end r) n))
   where
     go : legalTag k (r .tag) ≡ true → legal k (roundEach n rs) ≡ true → (t : Bool)
-        → legal k (cond t (region (up (r .base .0) n) (down (end r) n - up (r .base .0) n) (r .tag) ∷ roundEach n rs) (roundEach n rs)) ≡ true
+        → legal k (cond t (region (up (r .base .0) n) (down (end r) n - up (r .base .0) n) (r .tag) ∷ []) [] ++ roundEach n rs) ≡ true
     go p q true = and p q
     go p q false = q

@@ -1,7 +1,7 @@
 -- The walk over the list makes the shortest list of the changed meaning. Assumes nothing.
 use Prim.Native.Nat.{ℕ, _-_, _≤_, _<_, min, max}
 use mathlib.Core.Path.{_≡_, refl, sym, ap, _∙_}
-use mathlib.Core.List.{List}
+use mathlib.Core.List.{List, [], _∷_}
 use native.Mathlib.Omega.{arith}
 use Rattle.regions.specs.declared.Region.{Region}
 use Rattle.regions.specs.declared.State.{State}
@@ -9,10 +9,22 @@ use Rattle.regions.specs.declared.State.the-variants.{Absent, Present}
 use Rattle.regions.specs.Meaning.{Meaning, end, at, push, shortest}
 use Rattle.regions.specs.Changes.{after}
 use Rattle.regions.specs.Steps.{stretch}
-use Rattle.regions.proofs.Twins.{walk, update}
-use Rattle.regions.proofs.Rises.{Rises, done, next, Canonical}
+use Rattle.regions.proofs.Rises.{Rises, ended, next, Canonical}
 use Rattle.regions.proofs.Push.{push-to}
 use Rattle.regions.proofs.RoundTrip.{canonical-shortest, at-shortest, inside-yes, inside-below, inside-past, at-here, at-before, at-past, rises-end, rises-below, push-absent}
+
+-- ---- a change over a range, worked out on a list
+
+-- acc is done up to c, and the regions are to come
+unfoldable pub walk : (State → State) → ℕ → ℕ → List Region → ℕ → List Region → List Region
+walk k lo hi acc c [] = stretch k lo hi acc c (max c hi) Absent
+walk k lo hi acc c (r ∷ rs) =
+    walk k lo hi (stretch k lo hi (stretch k lo hi acc c (r .base .0) Absent) (r .base .0) (end r) (Present (r .tag))) (end r) rs
+
+unfoldable pub update : (State → State) → ℕ → ℕ → List Region → List Region
+update k lo hi xs = walk k lo hi [] 0 xs
+
+-- ---- it is the shortest list
 
 module _ (k : State → State) (lo hi : ℕ) (f : Meaning) where
   after-in : (a : ℕ) → lo ≤ a → a < hi → after k lo hi f a ≡ k (f a)
@@ -42,7 +54,7 @@ module _ (k : State → State) (lo hi : ℕ) (f : Meaning) where
   walk-shortest : lo ≤ hi → {c n : ℕ} {v : State} {xs : List Region} → Rises c v n xs → hi ≤ n → ((a : ℕ) → c ≤ a → a < n → f a ≡ at xs a)
       → walk k lo hi (shortest (after k lo hi f) c) c xs ≡ shortest (after k lo hi f) n
   unfolding walk at
-  walk-shortest w {c} {n} (done l) b h =
+  walk-shortest w {c} {n} (ended l) b h =
       sym (stretch-shortest w c (max c hi) Absent (omega arith) (λ a i j. h a i (omega arith)))
       ∙ sym (push-to (after k lo hi f) (max c hi) n Absent (omega arith) (λ a i j. after-past a (omega arith) ∙ h a (omega arith) j)
       ∙ push-absent (shortest (after k lo hi f) (max c hi)) (max c hi) (n - max c hi))

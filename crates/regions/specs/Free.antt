@@ -18,9 +18,9 @@ untaken v Absent = v
 untaken v (Present t) = Absent
 
 -- untaken memory, not no-map, with its tag
-unfoldable pub free : Meaning → Meaning → Meaning
-free memory taken a = untaken (usable (memory a)) (taken a)
+unfoldable pub freeMemory : Meaning → Meaning → Meaning
+freeMemory memory taken a = untaken (usable (memory a)) (taken a)
 
 -- document 01's free runs, the longest ranges of one tag: the shortest list of free memory
 unfoldable pub freeRuns : List Region → List Region → List Region
-freeRuns memory taken = shortest (free (at memory) (at taken)) top
+freeRuns memory taken = shortest (freeMemory (at memory) (at taken)) top

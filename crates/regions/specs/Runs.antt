@@ -9,13 +9,13 @@ use Rattle.regions.specs.declared.Run.{Run}
 use Rattle.regions.specs.Meaning.{end, inside}
 
 -- the size addresses from a lie in the region r, whose tag passes p
-abbrev pub holds : (Tag → Bool) → ℕ → ℕ → Region → Bool
-holds p size a r = p (r .tag) && (leb (r .base .0) a && leb (a + size) (end r))
+abbrev pub liesIn : (Tag → Bool) → ℕ → ℕ → Region → Bool
+liesIn p size a r = p (r .tag) && (leb (r .base .0) a && leb (a + size) (end r))
 
 -- they lie in one of the regions
 unfoldable pub inOne : (Tag → Bool) → ℕ → ℕ → List Region → Bool
 inOne p size a [] = false
-inOne p size a (r ∷ rs) = holds p size a r || inOne p size a rs
+inOne p size a (r ∷ rs) = liesIn p size a r || inOne p size a rs
 
 abbrev pub runOf : ℕ → ℕ → Run
 runOf lo hi = record { low = record { 0 = lo }; end = record { 0 = hi } }

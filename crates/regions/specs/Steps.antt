@@ -9,16 +9,16 @@ use Rattle.regions.specs.declared.Change.the-variants.{Fill, Clear, Mark
 use Rattle.regions.specs.Meaning.{push}
 
 -- a change whose flag is one of the three weights or between them
-abbrev pub Weighs : Change → Type 0
-Weighs (Fill t) = Unit {0}
-Weighs Clear = Unit {0}
-Weighs (Mark w) = (0 < w) × (w ≤ 4)
-Weighs (Unmark w) = (0 < w) × (w ≤ 4)
+abbrev pub FlagBounded : Change → Type 0
+FlagBounded (Fill t) = Unit {0}
+FlagBounded Clear = Unit {0}
+FlagBounded (Mark w) = (0 < w) × (w ≤ 4)
+FlagBounded (Unmark w) = (0 < w) × (w ≤ 4)
 
 -- a state whose flags leave room for one more
-abbrev pub Light : State → Type 0
-Light Absent = Unit {0}
-Light (Present t) = t .flags ≤ 7
+abbrev pub FlagsBounded : State → Type 0
+FlagsBounded Absent = Unit {0}
+FlagsBounded (Present t) = t .flags ≤ 7
 
 -- the stretch from c to e of state v, put behind acc: as it was below lo, changed from lo to hi, as it was from hi on
 unfoldable pub stretch : (State → State) → ℕ → ℕ → List Region → ℕ → ℕ → State → List Region

@@ -1,7 +1,7 @@
 -- Trim by an alignment, at one address and by records. Assumes nothing.
 use Prim.Native.Nat.{ℕ, zero, suc, _+_, _-_}
 use mathlib.Core.Bool.{Bool, true, false, cond, _&&_}
-use mathlib.Core.List.{List, [], _∷_}
+use mathlib.Core.List.{List, [], _∷_, _++_}
 use lib.Dec.{ltb}
 use Rattle.address.specs.Numbers.{up, down}
 use Rattle.regions.specs.declared.Region.{Region}
@@ -25,12 +25,15 @@ unfoldable pub trimmed : ℕ → Meaning → Meaning
 trimmed align f a = cond (throughout f (f a) (down a align) align) (f a) Absent
 
 -- the same by records, as document 01 says it: each has its base rounded up and its end rounded down; if nothing is left it goes
-unfoldable pub roundEach : ℕ → List Region → List Region
-roundEach align [] = []
-roundEach align (r ∷ rs) =
+abbrev pub roundOne : ℕ → Region → List Region
+roundOne align r =
     let base = up (r .base .0) align in
     let past = down (end r) align in
-    cond (ltb base past) (region base (past - base) (r .tag) ∷ roundEach align rs) (roundEach align rs)
+    cond (ltb base past) (region base (past - base) (r .tag) ∷ []) []
+
+unfoldable pub roundEach : ℕ → List Region → List Region
+roundEach align [] = []
+roundEach align (r ∷ rs) = roundOne align r ++ roundEach align rs
 
 -- what trim makes of a table
 unfoldable pub trimmedList : ℕ → List Region → List Region

@@ -7,7 +7,7 @@ ghost use Rattle.address.specs.Numbers.{address as checkedAddress};
 ghost use Rattle.regions.specs.Meaning.{end as endOf, joins as joinsAt, sameTag};
 ghost use Prim.Native.Nat.{_<_, _≤_};
 ghost use Rattle.regions.specs.Changes.{change, setFlag, clearFlag};
-ghost use Rattle.regions.specs.Steps.{Weighs, Light};
+ghost use Rattle.regions.specs.Steps.{FlagBounded, FlagsBounded};
 ghost use Rattle.regions.specs.Lists.{is as isTag, fits as fitsAfter, legalTag};
 
 pub mod bytes;
@@ -128,7 +128,7 @@ impl State {
 impl Change {
     // What the change makes of an address of this state.
     pub fn apply(self, state: State) -> State
-        requires { ⌜ Weighs self × Light state ⌝ }
+        requires { ⌜ FlagBounded self × FlagsBounded state ⌝ }
         ensures { λ r. ⌜ r ≡ change self state ⌝ }
     {
         match state {

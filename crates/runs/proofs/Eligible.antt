@@ -6,7 +6,7 @@ use mathlib.Core.List.{List}
 use native.Mathlib.Omega.{arith}
 use lib.Dec.{leb, eqb}
 use borrow.Author.Tests.{leb-true, le-leb, eq-eqb, eqb-true}
-use Rattle.address.proofs.Tests.{both, and, no}
+use Rattle.address.proofs.Tests.{both, and, no, zero-not-one}
 use Rattle.regions.specs.declared.Region.{Region}
 use Rattle.regions.specs.declared.Tag.{Tag}
 use Rattle.regions.specs.declared.State.{State}
@@ -20,7 +20,7 @@ use Rattle.regions.proofs.Rises.{Rises}
 use Rattle.runs.specs.declared.Query.{Query}
 use Rattle.runs.specs.Eligible.{asks, eligible}
 use Rattle.runs.specs.Steps.{serves}
-use Rattle.runs.proofs.Stretches.{Bare}
+use Rattle.runs.proofs.Stretches.{NoneIn}
 use Rattle.runs.proofs.Fits.{inWindow}
 
 -- an address is eligible exactly when it is aligned, and lies in the window and in a run
@@ -61,7 +61,7 @@ eligible-is q xs a = go (eqb (a % q .align .0) 0)
 -- ---- eligible, stretch by stretch
 
 module _ (q : Query) (pos : 0 < q .size .0) {c n : ℕ} {v : State} {xs : List Region} (w : Rises c v n xs) where
-  pub none-eligible : (lo hi : ℕ) → ((a : ℕ) → lo ≤ a → a < hi → passes (asks q) (at xs a) ≡ false) → Bare (eligible q xs) lo hi
+  pub none-eligible : (lo hi : ℕ) → ((a : ℕ) → lo ≤ a → a < hi → passes (asks q) (at xs a) ≡ false) → NoneIn (eligible q xs) lo hi
   none-eligible lo hi h a l m =
       eligible-is q xs a ∙ and-false (inWindow q a) (inOne (asks q) (q .size .0) a xs) (in-none (asks q) (q .size .0) a pos w (h a l m))
 
@@ -72,10 +72,10 @@ module _ (q : Query) (pos : 0 < q .size .0) {c n : ℕ} {v : State} {xs : List R
 
 -- nothing that begins outside the window is eligible
 module _ (q : Query) (xs : List Region) where
-  pub past-window : 0 < q .size .0 → (lo hi : ℕ) → q .end .0 ≤ lo → Bare (eligible q xs) lo hi
+  pub past-window : 0 < q .size .0 → (lo hi : ℕ) → q .end .0 ≤ lo → NoneIn (eligible q xs) lo hi
   past-window pos lo hi h a l m = no (eligible q xs a) (λ t. omega (arith, eligible-lies q xs a t .end))
 
-  pub below-window : (lo hi : ℕ) → hi ≤ q .start .0 → Bare (eligible q xs) lo hi
+  pub below-window : (lo hi : ℕ) → hi ≤ q .start .0 → NoneIn (eligible q xs) lo hi
   below-window lo hi h a l m = no (eligible q xs a) (λ t. omega (arith, eligible-lies q xs a t .start))
 
 -- ---- a record
@@ -92,5 +92,5 @@ pub does-serve : (p : Tag → Bool) (r : Region) → serves p r ≡ true → (us
 does-serve p r e = go (has 4 (r .tag .flags)) e
   where
     go : (b : Bool) → not b && p (r .tag) ≡ true → (cond b Absent (Present (r .tag)) ≡ Present (r .tag)) × (p (r .tag) ≡ true)
-    go true e = let z : _≡_ {A = ℕ} 0 1 = cc in absurd (omega arith)
+    go true e = absurd (zero-not-one cc)
     go false e = (refl, e)

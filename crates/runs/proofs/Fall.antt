@@ -6,18 +6,18 @@ use mathlib.Core.Logic.{_⊎_, inl, inr}
 use native.Mathlib.Omega.{arith}
 use native.Mathlib.Numerals.{add-one}
 use lib.ListN.{drop}
-use Rattle.address.proofs.Tests.{le-or-lt}
+use Rattle.address.proofs.Tests.{le-or-lt, zero-not-one}
 use Rattle.regions.specs.declared.Tag.{Tag}
 use Rattle.regions.specs.declared.Region.{Region}
 use Rattle.regions.specs.declared.State.{State}
 use Rattle.regions.specs.declared.State.the-variants.{Absent, Present}
 use Rattle.regions.specs.Meaning.{Meaning, end, at}
 use Rattle.regions.specs.Bytes.{readRegion, readRegions}
-use Rattle.regions.proofs.Rises.{Rises, done, next, Canonical}
+use Rattle.regions.proofs.Rises.{Rises, ended, next, Canonical}
 use Rattle.regions.proofs.RoundTrip.{at-here, at-before, at-past, rises-below}
 use Rattle.regions.proofs.Records.{read-regions-snoc}
 use Rattle.regions.proofs.Trim.{rises-apart}
-use Rattle.runs.proofs.Twins.{onto, falling}
+use Rattle.runs.proofs.Ways.{onto, falling}
 
 -- ---- what lies beside a record has not its tag
 
@@ -31,7 +31,7 @@ AllShut f (r ∷ rs) = Shut f r × AllShut f rs
 
 rises-shut : (f : Meaning) {c n : ℕ} {v : State} {xs : List Region} → Rises c v n xs → ((a : ℕ) → c ≤ a → f a ≡ at xs a)
     → ((b : ℕ) (t : Tag) → suc b ≡ c → f b ≡ Present t → v ≡ Present t) → AllShut f xs
-rises-shut f (done l) h g = tt
+rises-shut f (ended l) h g = tt
 rises-shut f {c} (next {r = r} {rs = rs} k w) h g = (
   record { stops = λ e. rises-apart w (sym (behind (end r) (omega arith)) ∙ e); begins = λ b y. begins b y (le-or-lt c b) },
   rises-shut f w behind (λ b t y e. sym (at-here r rs b (omega (arith, k .some)) (omega arith)) ∙ sym (h b (omega (arith, k .low, k .some))) ∙ e),
@@ -43,7 +43,7 @@ rises-shut f {c} (next {r = r} {rs = rs} k w) h g = (
     begins : (b : ℕ) → suc b ≡ r .base .0 → (c ≤ b) ⊎ (b < c) → f b ≡ Present (r .tag) → ⊥
     begins b y (inl i) e =
         let d = sym (h b i ∙ at-before r rs b (omega arith) ∙ rises-below b w (omega arith)) ∙ e in
-        let z : _≡_ {A = ℕ} 0 1 = cc in omega arith
+        absurd (zero-not-one cc)
     begins b y (inr i) e = k .apart (omega (arith, k .low)) (g b (r .tag) (omega (arith, k .low)) e)
 
 pub canonical-shut : (n : ℕ) (xs : List Region) → Canonical n xs → AllShut (at xs) xs
@@ -76,7 +76,7 @@ falls-weaken d (below {r = r} l s w) h = let m : end r ≤ d = omega arith in be
 
 onto-falls : (acc : List Region) {c n : ℕ} {v : State} {xs : List Region} → Falls c acc → Rises c v n xs → Falls n (onto acc xs)
 unfolding onto
-onto-falls acc {n = n} w (done l) = falls-weaken n w l
+onto-falls acc {n = n} w (ended l) = falls-weaken n w l
 onto-falls acc w (next {r = r} {rs = rs} k u) =
     let l : end r ≤ end r = omega arith in
     onto-falls (r ∷ acc) (below l (k .some) (falls-weaken (r .base .0) w (k .low))) u
@@ -84,12 +84,12 @@ onto-falls acc w (next {r = r} {rs = rs} k u) =
 -- below c what is there already speaks, and from c on the list
 onto-low : (acc : List Region) {c n : ℕ} {v : State} {xs : List Region} (a : ℕ) → Rises c v n xs → a < c → at (onto acc xs) a ≡ at acc a
 unfolding onto
-onto-low acc a (done l) h = refl
+onto-low acc a (ended l) h = refl
 onto-low acc a (next {r = r} k u) h = onto-low (r ∷ acc) a u (omega arith) ∙ at-before r acc a (omega arith)
 
 onto-high : (acc : List Region) {c n : ℕ} {v : State} {xs : List Region} (a : ℕ) → ((b : ℕ) → c ≤ b → at acc b ≡ Absent) → Rises c v n xs → c ≤ a → at (onto acc xs) a ≡ at xs a
 unfolding onto at
-onto-high acc a e (done l) h = e a h
+onto-high acc a e (ended l) h = e a h
 onto-high acc a e (next {r = r} {rs = rs} k u) h =
     go (onto-high (r ∷ acc) a (λ b i. at-past r acc b i ∙ e b (omega arith)) u) (le-or-lt (r .base .0) a) (le-or-lt (end r) a)
   where

@@ -9,7 +9,7 @@ use borrow.Author.Tests.{le-leb, lt-leb, leb-true, leb-false, eq-eqb, ne-eqb, eq
 use Rattle.address.specs.Numbers.{address, difference, up, down, powerOfTwo}
 use Rattle.address.specs.declared.Address.{Address}
 use Rattle.address.specs.declared.CheckedAddress.{CheckedAddress}
-use Rattle.address.proofs.Tests.{both, and, no, clash}
+use Rattle.address.proofs.Tests.{both, and, no, clash, zero-not-one}
 use Rattle.address.proofs.Checked.{address-at, address-outside}
 use Rattle.address.proofs.Rounding.{up-ge, up-multiple, up-least, down-le, down-multiple, down-most}
 use Rattle.address.proofs.Powers.{power-some}
@@ -19,7 +19,7 @@ use Rattle.runs.specs.declared.Query.{Query}
 use Rattle.regions.specs.declared.Run.{Run}
 use Rattle.runs.specs.Eligible.{onNode}
 use Rattle.runs.specs.Steps.{Hit, hitIn, spotOf, cutLow, cutHigh, serves, fitLow, fitHigh}
-use Rattle.runs.proofs.Twins.{Way, Up, Down, fit}
+use Rattle.runs.proofs.Ways.{Way, Up, Down, fit}
 use Rattle.runs.proofs.Stretches.{Before, Finds}
 use Rattle.address.specs.declared.CheckedAddress.the-variants as checked
 
@@ -175,14 +175,14 @@ less-at x s u a e f = go (leb s x) refl (sym f ∙ e)
   where
     go : (b : Bool) → leb s x ≡ b → checked.At a ≡ cond b (checked.At (record { 0 = x - s })) checked.Outside → (a .0 ≡ x - s) × (s ≤ x)
     go true h e = let f : a ≡ record { 0 = x - s } = cc in (ap (λ (y : Address). y .0) f, leb-true s x h)
-    go false h e = let z : _≡_ {A = ℕ} 0 1 = cc in absurd (omega arith)
+    go false h e = absurd (zero-not-one cc)
 
 less-outside : (x s : ℕ) (u : CheckedAddress) → u ≡ difference x s → u ≡ checked.Outside → x < s
 unfolding difference
 less-outside x s u e f = go (leb s x) refl (sym f ∙ e)
   where
     go : (b : Bool) → leb s x ≡ b → checked.Outside ≡ cond b (checked.At (record { 0 = x - s })) checked.Outside → x < s
-    go true h e = let z : _≡_ {A = ℕ} 0 1 = cc in absurd (omega arith)
+    go true h e = absurd (zero-not-one cc)
     go false h e = leb-false s x h
 
 module _ (q : Query) (from to : Address) (u : CheckedAddress) (less : u ≡ difference (to .0) (q .size .0)) where

@@ -4,6 +4,6 @@ pub mod Fall
 pub mod Fits
 pub mod Steps
 pub mod Stretches
-pub mod Twins
 pub mod Walks
+pub mod Ways
 pub mod Window

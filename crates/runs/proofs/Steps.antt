@@ -14,7 +14,7 @@ use borrow.Author.Tests.{le-leb, lt-leb, lt-ltb, le-ltb, eq-eqb, ne-eqb, leb-fal
 use Rattle.address.specs.declared.Address.{Address}
 use Rattle.address.specs.declared.CheckedAddress.{CheckedAddress}
 use Rattle.address.specs.declared.CheckedAddress.the-variants.{At, Outside}
-use Rattle.address.proofs.Tests.{both, le-or-lt}
+use Rattle.address.proofs.Tests.{both, le-or-lt, zero-not-one}
 use Rattle.address.proofs.Powers.{power-some}
 use Rattle.regions.specs.declared.Kind.{Kind}
 use Rattle.regions.specs.declared.Kind.the-variants.{Memory, Taken}
@@ -36,7 +36,7 @@ use Rattle.runs.specs.declared.walk.Bounds.{Bounds}
 use Rattle.runs.specs.declared.fit.Place.the-variants.{Here, Nowhere}
 use Rattle.runs.specs.Eligible.{asks, orElse}
 use Rattle.runs.specs.Steps.{Hit, hitIn, placeOf, spotOf, boundsOf, boundsLow, boundsHigh, serves, cutLow, cutHigh, fitLow, fitHigh, Searchable, lowestIn, highestIn}
-use Rattle.runs.proofs.Twins.{Way, Up, Down, gaps, walk}
+use Rattle.runs.proofs.Ways.{Way, Up, Down, gaps, walk}
 use Rattle.runs.proofs.Fall.{backs, backs-falling}
 use Rattle.runs.proofs.Walks.{walk-lowest, walk-highest}
 use Rattle.runs.proofs.Window.{canonical-drop, from-memory, from-taken}
@@ -160,14 +160,14 @@ module _ (v : Way) (n : ℕ) (l : List ℕ) (j : ℕ) where
 
 place-first : (o : Option ℕ) (u A : Option Hit) (s : CheckedAddress) (a lo hi : Address) → s ≡ spotOf o → s ≡ At a → orElse (hitIn (lo .0) (hi .0) o) u ≡ A
     → Here a (record { low = lo; end = hi }) ≡ placeOf A
-place-first none u A s a lo hi i g h = let z : _≡_ {A = ℕ} 0 1 = cc in absurd (omega arith)
+place-first none u A s a lo hi i g h = absurd (zero-not-one cc)
 place-first (some x) u A s a lo hi i g h =
     let y : a ≡ record { 0 = x } = cc in
     ap (λ (b : Address). Here b (record { low = lo; end = hi })) y ∙ ap placeOf h
 
 place-next : (o : Option ℕ) (u A : Option Hit) (s : CheckedAddress) (lo hi : ℕ) → s ≡ spotOf o → s ≡ Outside → orElse (hitIn lo hi o) u ≡ A → u ≡ A
 place-next none u A s lo hi i g h = h
-place-next (some x) u A s lo hi i g h = let z : _≡_ {A = ℕ} 0 1 = cc in absurd (omega arith)
+place-next (some x) u A s lo hi i g h = absurd (zero-not-one cc)
 
 -- ---- the steps
 

@@ -9,17 +9,17 @@ use Rattle.address.proofs.Tests.{clash, le-or-lt}
 use Rattle.runs.specs.Eligible.{orElse, lowest, highest}
 use Rattle.regions.specs.declared.Run.{Run}
 use Rattle.runs.specs.Steps.{Hit, hitOf}
-use Rattle.runs.proofs.Twins.{Way, Up, Down, extreme}
+use Rattle.runs.proofs.Ways.{Way, Up, Down, extreme}
 use Rattle.runs.proofs.Extremes.{Gives, lowest-gives, highest-gives}
 
 -- p holds at no address from c to below d
-abbrev pub Bare : (ℕ → Bool) → ℕ → ℕ → Type 0
-Bare p c d = (a : ℕ) → c ≤ a → a < d → p a ≡ false
+abbrev pub NoneIn : (ℕ → Bool) → ℕ → ℕ → Type 0
+NoneIn p c d = (a : ℕ) → c ≤ a → a < d → p a ≡ false
 
 -- p holds at none before x, in the order of the walk
 abbrev pub Before : Way → (ℕ → Bool) → ℕ → ℕ → ℕ → Type 0
-Before Up p c d x = Bare p c x
-Before Down p c d x = Bare p (suc x) d
+Before Up p c d x = NoneIn p c x
+Before Down p c d x = NoneIn p (suc x) d
 
 -- x is the first address from c to below d at which p holds, with the run that w gives it
 pub record First (v : Way) (w : ℕ → Run) (p : ℕ → Bool) (c d : ℕ) (x : Hit) : Type 0 where
@@ -31,11 +31,11 @@ pub record First (v : Way) (w : ℕ → Run) (p : ℕ → Bool) (c d : ℕ) (x :
 
 -- o is what a walk from c to below d finds
 abbrev pub Finds : Way → (ℕ → Run) → (ℕ → Bool) → ℕ → ℕ → Option Hit → Type 0
-Finds v w p c d none = Bare p c d
+Finds v w p c d none = NoneIn p c d
 Finds v w p c d (some x) = First v w p c d x
 
-bare-join : (p : ℕ → Bool) (c d e : ℕ) → Bare p c d → Bare p d e → Bare p c e
-bare-join p c d e f g a l m = go (le-or-lt d a)
+none-in-join : (p : ℕ → Bool) (c d e : ℕ) → NoneIn p c d → NoneIn p d e → NoneIn p c e
+none-in-join p c d e f g a l m = go (le-or-lt d a)
   where
     go : (d ≤ a) ⊎ (a < d) → p a ≡ false
     go (inl h) = g a h m
@@ -43,14 +43,14 @@ bare-join p c d e f g a l m = go (le-or-lt d a)
 
 -- upwards what is found in the lower stretch comes first
 pub join-up : (w : ℕ → Run) (p : ℕ → Bool) (c d e : ℕ) (o u : Option Hit) → c ≤ d → d ≤ e → Finds Up w p c d o → Finds Up w p d e u → Finds Up w p c e (orElse o u)
-join-up w p c d e none none l m f g = bare-join p c d e f g
-join-up w p c d e none (some x) l m f g = record { yes = g .yes; low = omega arith; high = g .high; rest = bare-join p c d (x .at) f (g .rest); run = g .run }
+join-up w p c d e none none l m f g = none-in-join p c d e f g
+join-up w p c d e none (some x) l m f g = record { yes = g .yes; low = omega arith; high = g .high; rest = none-in-join p c d (x .at) f (g .rest); run = g .run }
 join-up w p c d e (some x) u l m f g = record { yes = f .yes; low = f .low; high = omega arith; rest = f .rest; run = f .run }
 
 -- downwards what is found in the higher
 pub join-down : (w : ℕ → Run) (p : ℕ → Bool) (c d e : ℕ) (o u : Option Hit) → c ≤ d → d ≤ e → Finds Down w p d e o → Finds Down w p c d u → Finds Down w p c e (orElse o u)
-join-down w p c d e none none l m f g = bare-join p c d e g f
-join-down w p c d e none (some x) l m f g = record { yes = g .yes; low = g .low; high = omega arith; rest = bare-join p (suc (x .at)) d e (g .rest) f; run = g .run }
+join-down w p c d e none none l m f g = none-in-join p c d e g f
+join-down w p c d e none (some x) l m f g = record { yes = g .yes; low = g .low; high = omega arith; rest = none-in-join p (suc (x .at)) d e (g .rest) f; run = g .run }
 join-down w p c d e (some x) u l m f g = record { yes = f .yes; low = omega arith; high = f .high; rest = f .rest; run = f .run }
 
 -- ---- what is found from 0 on is the lowest, or the highest

@@ -9,23 +9,23 @@ use mathlib.Core.Logic.{_⊎_, inl, inr}
 use native.Mathlib.Omega.{arith}
 use lib.Dec.{ltb}
 use borrow.Author.Tests.{ltb-true, ltb-false}
-use Rattle.address.proofs.Tests.{le-or-lt}
+use Rattle.address.proofs.Tests.{le-or-lt, zero-not-one}
 use Rattle.regions.specs.declared.Tag.{Tag}
 use Rattle.regions.specs.declared.Region.{Region}
 use Rattle.regions.specs.declared.State.{State}
 use Rattle.regions.specs.declared.State.the-variants.{Absent, Present}
 use Rattle.regions.specs.Meaning.{Meaning, end, at, top}
-use Rattle.regions.specs.Free.{usable, untaken, free, freeRuns}
+use Rattle.regions.specs.Free.{usable, untaken, freeMemory, freeRuns}
 use Rattle.regions.specs.Runs.{runAt}
-use Rattle.regions.proofs.Rises.{Rises, done, next, Canonical}
+use Rattle.regions.proofs.Rises.{Rises, ended, next, Canonical}
 use Rattle.regions.proofs.RoundTrip.{at-here, at-before, at-past, rises-end, rises-below, canonical-shortest}
 use Rattle.regions.proofs.Free.{pass-untaken, runs-at, free-memory}
 use Rattle.regions.proofs.Lying.{passes, Longest, run-is}
 use Rattle.runs.specs.declared.Query.{Query}
 use Rattle.runs.specs.Eligible.{asks, eligible}
 use Rattle.runs.specs.Steps.{Hit, serves, fitLow, fitHigh, lowestIn, highestIn}
-use Rattle.runs.proofs.Twins.{Way, Up, Down, fit, gaps, walk, falling}
-use Rattle.runs.proofs.Stretches.{Bare, Finds, join-up, join-down, finds-extreme}
+use Rattle.runs.proofs.Ways.{Way, Up, Down, fit, gaps, walk, falling}
+use Rattle.runs.proofs.Stretches.{NoneIn, Finds, join-up, join-down, finds-extreme}
 use Rattle.runs.proofs.Fits.{fit-finds, fit-none}
 use Rattle.runs.proofs.Eligible.{past-window, below-window, none-eligible, eligible-here, not-serving, does-serve}
 use Rattle.runs.proofs.Fall.{Shut, AllShut, canonical-shut, falling-shut, Falls, bottom, below, falls-above, falling-falls, falling-at}
@@ -39,8 +39,8 @@ module _ (q : Query) (some-size : 0 < q .size .0) (some-align : 0 < q .align .0)
   abbrev Gives : Way → ℕ → ℕ → Option Hit → Type 0
   Gives v c d o = Finds v (runAt xs) p c d o
 
-  bare : (c d : ℕ) → ((a : ℕ) → c ≤ a → a < d → passes (asks q) (at xs a) ≡ false) → Bare p c d
-  bare = none-eligible q some-size good
+  none-in : (c d : ℕ) → ((a : ℕ) → c ≤ a → a < d → passes (asks q) (at xs a) ≡ false) → NoneIn p c d
+  none-in = none-eligible q some-size good
 
   -- ---- a gap
 
@@ -75,7 +75,7 @@ module _ (q : Query) (some-size : 0 < q .size .0) (some-align : 0 < q .align .0)
     gone a i j x y = o .free a i j ∙ ap (untaken (Present t)) (at-here r us a x y)
 
     not-there : (a : ℕ) → lo ≤ a → a < hi → r .base .0 ≤ a → a < end r → at xs a ≡ Present t → ⊥
-    not-there a i j x y e = let d = sym (gone a i j x y) ∙ e in let z : _≡_ {A = ℕ} 0 1 = cc in omega arith
+    not-there a i j x y e = let d = sym (gone a i j x y) ∙ e in absurd (zero-not-one cc)
 
     under : lo ≤ min hi (r .base .0) → Open t us lo (min hi (r .base .0))
     under l =
@@ -106,8 +106,8 @@ module _ (q : Query) (some-size : 0 < q .size .0) (some-align : 0 < q .align .0)
         begins b y (inr i) = not-there b (omega arith) (omega arith) (omega arith) (omega arith)
 
     -- nothing in between
-    between : Bare p (max lo (min hi (r .base .0))) (min hi (max lo (end r)))
-    between = bare _ _ (λ a i j. ap (passes (asks q)) (gone a (omega arith) (omega arith) (omega arith) (omega arith)))
+    between : NoneIn p (max lo (min hi (r .base .0))) (min hi (max lo (end r)))
+    between = none-in _ _ (λ a i j. ap (passes (asks q)) (gone a (omega arith) (omega arith) (omega arith) (omega arith)))
 
     -- and where us says nothing there, the fits are what a walk finds
     under-finds : (v : Way) → ((a : ℕ) → a < r .base .0 → at us a ≡ Absent) → Gives v lo (max lo (min hi (r .base .0))) (fit v q lo (min hi (r .base .0)))
@@ -130,28 +130,28 @@ module _ (q : Query) (some-size : 0 < q .size .0) (some-align : 0 < q .align .0)
           begins = λ b y x. shut .begins b y (whole b (r .tag) x);
         }
 
-    passed-record : serves (asks q) r ≡ false → Bare p (r .base .0) (end r)
+    passed-record : serves (asks q) r ≡ false → NoneIn p (r .base .0) (end r)
     passed-record e =
-        bare _ _ (λ a i j. ap (passes (asks q)) (here a i j) ∙ pass-untaken (asks q) (usable (Present (r .tag))) (at ts a) (not-serving (asks q) r e))
+        none-in _ _ (λ a i j. ap (passes (asks q)) (here a i j) ∙ pass-untaken (asks q) (usable (Present (r .tag))) (at ts a) (not-serving (asks q) r e))
 
   -- where there is no record there is nothing
   unrecorded : (c d : ℕ) (rs ts : List Region) → ((a : ℕ) → c ≤ a → a < d → at xs a ≡ untaken (usable (at rs a)) (at ts a))
-      → ((a : ℕ) → c ≤ a → a < d → at rs a ≡ Absent) → Bare p c d
+      → ((a : ℕ) → c ≤ a → a < d → at rs a ≡ Absent) → NoneIn p c d
   unrecorded c d rs ts h e =
-      bare c d (λ a i j. ap (passes (asks q)) (h a i j ∙ ap (λ (x : State). untaken (usable x) (at ts a)) (e a i j)) ∙ pass-untaken (asks q) Absent (at ts a) refl)
+      none-in c d (λ a i j. ap (passes (asks q)) (h a i j ∙ ap (λ (x : State). untaken (usable x) (at ts a)) (e a i j)) ∙ pass-untaken (asks q) Absent (at ts a) refl)
 
   -- ---- upwards
 
   -- what comes from hi on is found by k, whatever taken regions are left
   abbrev Onward : (List Region → Option Hit) → List Region → ℕ → Type 0
-  Onward k rs hi = (ts : List Region) (c : ℕ) (s : State) → Rises c s n ts → ((a : ℕ) → hi ≤ a → at xs a ≡ free (at rs) (at ts) a) → Gives Up hi n (k ts)
+  Onward k rs hi = (ts : List Region) (c : ℕ) (s : State) → Rises c s n ts → ((a : ℕ) → hi ≤ a → at xs a ≡ freeMemory (at rs) (at ts) a) → Gives Up hi n (k ts)
 
   gaps-up : (k : List Region → Option Hit) (rs : List Region) (t : Tag) (lo hi : ℕ) {c : ℕ} {s : State} {ts : List Region}
-      → Onward k rs hi → lo ≤ hi → hi ≤ n → Rises c s n ts → Open t ts lo hi → ((a : ℕ) → hi ≤ a → at xs a ≡ free (at rs) (at ts) a)
+      → Onward k rs hi → lo ≤ hi → hi ≤ n → Rises c s n ts → Open t ts lo hi → ((a : ℕ) → hi ≤ a → at xs a ≡ freeMemory (at rs) (at ts) a)
       → Gives Up lo n (gaps Up q k lo hi ts)
-  unfolding gaps at free
-  gaps-up k rs t lo hi {c} {s} g l m (done d) o j =
-      join-up (runAt xs) p lo hi n (fitLow q lo hi) (k []) l m (clear-finds Up t [] lo hi o (λ a x y. refl)) (g [] c s (done d) j)
+  unfolding gaps at freeMemory
+  gaps-up k rs t lo hi {c} {s} g l m (ended d) o j =
+      join-up (runAt xs) p lo hi n (fitLow q lo hi) (k []) l m (clear-finds Up t [] lo hi o (λ a x y. refl)) (g [] c s (ended d) j)
   gaps-up k rs t lo hi {c} {s} g l m (next {r = r} {rs = us} d w) o j =
       let u = cond (ltb (min hi (q .end .0)) (end r)) (k (r ∷ us)) (gaps Up q k (max lo (end r)) hi us) in
       join-up (runAt xs) p lo (max lo (min hi (r .base .0))) n (fitLow q lo (min hi (r .base .0))) u (omega arith) (omega arith)
@@ -159,7 +159,7 @@ module _ (q : Query) (some-size : 0 < q .size .0) (some-align : 0 < q .align .0)
       (join-up (runAt xs) p (max lo (min hi (r .base .0))) (min hi (max lo (end r))) n none u (omega (arith, d .some)) (omega arith) (between t r us lo hi o (d .some))
       (go (λ e i. gaps-up k rs t (max lo (end r)) hi g e m w i (behind (omega arith))) (ltb (min hi (q .end .0)) (end r)) refl))
     where
-      behind : end r ≤ hi → (a : ℕ) → hi ≤ a → at xs a ≡ free (at rs) (at us) a
+      behind : end r ≤ hi → (a : ℕ) → hi ≤ a → at xs a ≡ freeMemory (at rs) (at us) a
       behind e a u = j a u ∙ ap (untaken (usable (at rs a))) (at-past r us a (omega arith))
 
       go : (max lo (end r) ≤ hi → Open t us (max lo (end r)) hi → Gives Up (max lo (end r)) n (gaps Up q k (max lo (end r)) hi us))
@@ -174,9 +174,9 @@ module _ (q : Query) (some-size : 0 < q .size .0) (some-align : 0 < q .align .0)
           rw z (ih (omega arith) (over t r us lo hi o (d .some) (omega arith)))
 
   walk-up : {c : ℕ} {s : State} {rs : List Region} {c′ : ℕ} {s′ : State} {ts : List Region} → Rises c s n rs → AllShut f rs → Rises c′ s′ n ts
-      → ((a : ℕ) → c ≤ a → at xs a ≡ free (at rs) (at ts) a) → Gives Up c n (walk Up q rs ts)
-  unfolding walk at free
-  walk-up {c} {ts = ts} (done l) sh u h = unrecorded c n [] ts (λ a i j. h a i) (λ a i j. refl)
+      → ((a : ℕ) → c ≤ a → at xs a ≡ freeMemory (at rs) (at ts) a) → Gives Up c n (walk Up q rs ts)
+  unfolding walk at freeMemory
+  walk-up {c} {ts = ts} (ended l) sh u h = unrecorded c n [] ts (λ a i j. h a i) (λ a i j. refl)
   walk-up {c} {ts = ts} (next {r = r} {rs = rs} k w) sh u h =
       join-up (runAt xs) p c (r .base .0) n none (cond (serves (asks q) r) (gaps Up q (walk Up q rs) (r .base .0) (end r) ts) (walk Up q rs ts)) (k .low) (omega (arith, rises-end w))
       (unrecorded c (r .base .0) (r ∷ rs) ts (λ a i j. h a i) (λ a i j. at-before r rs a j ∙ rises-below a w (omega arith)))
@@ -198,12 +198,12 @@ module _ (q : Query) (some-size : 0 < q .size .0) (some-align : 0 < q .align .0)
 
   -- what lies below lo is found by k, whatever taken regions are left
   abbrev Downward : (List Region → Option Hit) → List Region → ℕ → Type 0
-  Downward k rs lo = (ts : List Region) (d : ℕ) → Falls d ts → ((a : ℕ) → a < lo → at xs a ≡ free (at rs) (at ts) a) → Gives Down 0 lo (k ts)
+  Downward k rs lo = (ts : List Region) (d : ℕ) → Falls d ts → ((a : ℕ) → a < lo → at xs a ≡ freeMemory (at rs) (at ts) a) → Gives Down 0 lo (k ts)
 
   gaps-down : (k : List Region → Option Hit) (rs : List Region) (t : Tag) (lo hi : ℕ) {d : ℕ} {ts : List Region}
-      → Downward k rs lo → lo ≤ hi → Falls d ts → Open t ts lo hi → ((a : ℕ) → a < lo → at xs a ≡ free (at rs) (at ts) a)
+      → Downward k rs lo → lo ≤ hi → Falls d ts → Open t ts lo hi → ((a : ℕ) → a < lo → at xs a ≡ freeMemory (at rs) (at ts) a)
       → Gives Down 0 hi (gaps Down q k lo hi ts)
-  unfolding gaps at free
+  unfolding gaps at freeMemory
   gaps-down k rs t lo hi {d} g l bottom o j =
       join-down (runAt xs) p 0 lo hi (fitHigh q lo hi) (k []) (omega arith) l (clear-finds Down t [] lo hi o (λ a x y. refl)) (g [] d bottom j)
   gaps-down k rs t lo hi {d} g l (below {r = r} {rs = us} m z w) o j =
@@ -213,7 +213,7 @@ module _ (q : Query) (some-size : 0 < q .size .0) (some-align : 0 < q .align .0)
       (join-down (runAt xs) p 0 (max lo (min hi (r .base .0))) (min hi (max lo (end r))) none u (omega arith) (omega arith) (between t r us lo hi o z)
       (go (λ e i. gaps-down k rs t lo (min hi (r .base .0)) g e w i (beneath (omega arith))) (ltb (r .base .0) (max lo (q .start .0))) refl))
     where
-      beneath : lo ≤ r .base .0 → (a : ℕ) → a < lo → at xs a ≡ free (at rs) (at us) a
+      beneath : lo ≤ r .base .0 → (a : ℕ) → a < lo → at xs a ≡ freeMemory (at rs) (at us) a
       beneath e a u = j a u ∙ ap (untaken (usable (at rs a))) (at-before r us a (omega arith))
 
       go : (lo ≤ min hi (r .base .0) → Open t us lo (min hi (r .base .0)) → Gives Down 0 (min hi (r .base .0)) (gaps Down q k lo (min hi (r .base .0)) us))
@@ -229,8 +229,8 @@ module _ (q : Query) (some-size : 0 < q .size .0) (some-align : 0 < q .align .0)
           rw y (ih (omega arith) (under t r us lo hi o z (omega arith)))
 
   walk-down : {d d′ : ℕ} {rs ts : List Region} → Falls d rs → AllShut f rs → Falls d′ ts
-      → ((a : ℕ) → a < d → at xs a ≡ free (at rs) (at ts) a) → Gives Down 0 d (walk Down q rs ts)
-  unfolding walk at free
+      → ((a : ℕ) → a < d → at xs a ≡ freeMemory (at rs) (at ts) a) → Gives Down 0 d (walk Down q rs ts)
+  unfolding walk at freeMemory
   walk-down {d} {ts = ts} bottom sh u h = unrecorded 0 d [] ts (λ a i j. h a j) (λ a i j. refl)
   walk-down {d} {ts = ts} (below {r = r} {rs = rs} m z w) sh u h =
       join-down (runAt xs) p 0 (end r) d none (cond (serves (asks q) r) (gaps Down q (walk Down q rs) (r .base .0) (end r) ts) (walk Down q rs ts)) (omega arith) m
@@ -256,7 +256,7 @@ module _ (q : Query) (ms ts : List Region) (s : 0 < q .size .0) (l : 0 < q .alig
 
   runs : Canonical top xs
   unfolding freeRuns
-  runs = canonical-shortest (free (at ms) (at ts)) top
+  runs = canonical-shortest (freeMemory (at ms) (at ts)) top
 
   pub walk-lowest : walk Up q ms ts ≡ lowestIn ms ts q
   unfolding lowestIn
@@ -265,10 +265,10 @@ module _ (q : Query) (ms ts : List Region) (s : 0 < q .size .0) (l : 0 < q .alig
       (walk-up q s l top xs runs (at ms) (free-memory ms ts w) w (canonical-shut top ms w) u (λ a i. runs-at ms ts w a))
 
   pub walk-highest : walk Down q (falling ms) (falling ts) ≡ highestIn ms ts q
-  unfolding highestIn free
+  unfolding highestIn freeMemory
   walk-highest =
       finds-extreme (runAt xs) (eligible q xs) top Down (walk Down q (falling ms) (falling ts))
       (walk-down q s l top xs runs (at ms) (free-memory ms ts w) (falling-falls top ms w) (falling-shut (at ms) ms (canonical-shut top ms w)) (falling-falls top ts u) here)
     where
-      here : (a : ℕ) → a < top → at xs a ≡ free (at (falling ms)) (at (falling ts)) a
+      here : (a : ℕ) → a < top → at xs a ≡ freeMemory (at (falling ms)) (at (falling ts)) a
       here a i = rw (falling-at top ms a w, falling-at top ts a u) (runs-at ms ts w a)

@@ -8,12 +8,12 @@ use native.Mathlib.Omega.{arith}
 use lib.Dec.{leb}
 use lib.ListN.{drop}
 use borrow.Author.Tests.{leb-true}
-use Rattle.address.proofs.Tests.{no, clash}
+use Rattle.address.proofs.Tests.{no, clash, zero-not-one}
 use Rattle.regions.specs.declared.Region.{Region}
 use Rattle.regions.specs.declared.State.{State}
 use Rattle.regions.specs.declared.State.the-variants.{Absent, Present}
 use Rattle.regions.specs.Meaning.{end, at, top}
-use Rattle.regions.specs.Free.{usable, untaken, free, freeRuns}
+use Rattle.regions.specs.Free.{usable, untaken, freeMemory, freeRuns}
 use Rattle.regions.specs.Runs.{runAt}
 use Rattle.regions.proofs.Rises.{Rises, next, Canonical}
 use Rattle.regions.proofs.RoundTrip.{at-here, at-past, rises-below, canonical-shortest}
@@ -72,7 +72,7 @@ module _ (q : Query) (pos : 0 < q .size .0) (ms ts ms′ ts′ : List Region) (w
     (memory : (a : ℕ) → d ≤ a → at ms a ≡ at ms′ a) (taken : (a : ℕ) → d ≤ a → at ts a ≡ at ts′ a)
     (low : Parted (freeRuns ms ts) d) (low′ : Parted (freeRuns ms′ ts′) d) where
   agree : Agree (freeRuns ms ts) (freeRuns ms′ ts′) d
-  unfolding free
+  unfolding freeMemory
   agree =
       record {
         same = λ a i. runs-at ms ts w a ∙ rw (memory a i, taken a i) (sym (runs-at ms′ ts′ w′ a));
@@ -83,8 +83,8 @@ module _ (q : Query) (pos : 0 < q .size .0) (ms ts ms′ ts′ : List Region) (w
   lowest-same : lowestIn ms ts q ≡ lowestIn ms′ ts′ q
   unfolding lowestIn freeRuns
   lowest-same =
-      let x = canonical-shortest (free (at ms) (at ts)) top in
-      let y = canonical-shortest (free (at ms′) (at ts′)) top in
+      let x = canonical-shortest (freeMemory (at ms) (at ts)) top in
+      let y = canonical-shortest (freeMemory (at ms′) (at ts′)) top in
       hits-same q pos d l x y agree (lowest (eligible q (freeRuns ms ts)) top) (lowest-gives (eligible q (freeRuns ms ts)) top)
       ∙ ap (hitOf (runAt (freeRuns ms′ ts′))) (lowest-agree (eligible q (freeRuns ms ts)) (eligible q (freeRuns ms′ ts′)) top (λ a i. eligible-same q pos d l x y agree a))
 
@@ -106,12 +106,12 @@ module _ (q : Query) (pos : 0 < q .size .0) where
       low′ : Parted (freeRuns ms ts) (end r)
       low′ b t y e f =
           let x = sym (rises-below b w (omega arith)) ∙ free-memory ms ts m b t e in
-          let z : _≡_ {A = ℕ} 0 1 = cc in omega arith
+          absurd (zero-not-one cc)
 
   -- and of the taken table, where the next ends there too: that one shuts the run that the window begins in
   taken-first : (ms : List Region) (r s : Region) (ts : List Region) → Canonical top ms → Canonical top (r ∷ s ∷ ts) → end s ≤ q .start .0
       → lowestIn ms (r ∷ s ∷ ts) q ≡ lowestIn ms (s ∷ ts) q
-  unfolding free
+  unfolding freeMemory
   taken-first ms r s ts w (next k (next k′ v)) l =
       lowest-same q pos ms (r ∷ s ∷ ts) ms (s ∷ ts) w w (end s) l (λ a i. refl) (λ a i. at-past r (s ∷ ts) a (omega (arith, k′ .low)))
       (shut (r ∷ s ∷ ts) (λ b x y. at-past r (s ∷ ts) b (omega (arith, k′ .low)) ∙ at-here s ts b x y)) (shut (s ∷ ts) (λ b x y. at-here s ts b x y))
@@ -119,7 +119,7 @@ module _ (q : Query) (pos : 0 < q .size .0) where
       shut : (us : List Region) → ((b : ℕ) → s .base .0 ≤ b → b < end s → at us b ≡ Present (s .tag)) → Parted (freeRuns ms us) (end s)
       shut us h b t y e f =
           let x = sym (runs-at ms us w b ∙ ap (untaken (usable (at ms b))) (h b (omega (arith, k′ .some)) (omega arith))) ∙ e in
-          let z : _≡_ {A = ℕ} 0 1 = cc in omega arith
+          absurd (zero-not-one cc)
 
   -- ---- the walk may begin behind all of them
 

@@ -9,6 +9,7 @@ use lib.Dec.{eqb, lit<}
 use lib.ListN.{length, take, drop, replicate, length-append}
 use lib.Seq.{sets, sets-eq, drop-length}
 use borrow.Author.Tests.{eq-eqb, ne-eqb, le-leb, lt-leb, eqb-true, eqb-false, not-true, not-false}
+use Rattle.address.proofs.Tests.{zero-not-one}
 use Rattle.address.specs.Numbers.{powerOfTwo}
 use Rattle.address.specs.declared.Address.{Address}
 use Rattle.address.proofs.Powers.{power-of}
@@ -136,7 +137,7 @@ found-vacant b q p f e a u g = go (found (contents current b) q) refl (sym g ∙
   where
     go : (o : Option ℕ) → found (contents current b) q ≡ o → Here a u ≡ placeOf (hitOf (runAt (runsOf (contents current b))) o)
         → (a .0 + q .size .0 ≤ top) × Vacant (a .0) (a .0 + q .size .0) (contents current b .taken)
-    go none h i = let z : _≡_ {A = ℕ} 0 1 = cc in absurd (omega arith)
+    go none h i = absurd (zero-not-one cc)
     go (some x) h i =
         let s = contents current b in
         let y : a ≡ record { 0 = x } = cc in

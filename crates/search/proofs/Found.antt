@@ -6,12 +6,12 @@ use mathlib.Core.Option.{some}
 use native.Mathlib.Omega.{arith}
 use lib.Dec.{eqb}
 use borrow.Author.Tests.{eq-eqb, ne-eqb, eqb-true, eqb-false}
-use Rattle.address.proofs.Tests.{and}
+use Rattle.address.proofs.Tests.{and, zero-not-one}
 use Rattle.regions.specs.declared.Tag.{Tag}
 use Rattle.regions.specs.declared.State.{State}
 use Rattle.regions.specs.declared.State.the-variants.{Absent, Present}
 use Rattle.regions.specs.Meaning.{at, top}
-use Rattle.regions.specs.Free.{usable, untaken, free, freeRuns}
+use Rattle.regions.specs.Free.{usable, untaken, freeMemory, freeRuns}
 use Rattle.regions.proofs.Lying.{one-run-in}
 use Rattle.block.specs.Block.{Contents}
 use Rattle.change.specs.Steps.{Vacant}
@@ -25,17 +25,17 @@ use Rattle.runs.proofs.Eligible.{eligible-lies}
 pub eligible-below : (q : Query) (s : Contents) (a : ℕ) → 0 < q .size .0 → eligible q (runsOf s) a ≡ true → a + q .size .0 ≤ top
 unfolding freeRuns
 eligible-below q s a h e =
-    one-run-in (free (at (s .memory)) (at (s .taken))) (asks q) (q .size .0) a h (eligible-lies q (runsOf s) a e .run) .0
+    one-run-in (freeMemory (at (s .memory)) (at (s .taken))) (asks q) (q .size .0) a h (eligible-lies q (runsOf s) a e .run) .0
 
 -- none of the addresses from an eligible one on is taken
 pub eligible-vacant : (q : Query) (s : Contents) (a : ℕ) → 0 < q .size .0 → eligible q (runsOf s) a ≡ true → Vacant a (a + q .size .0) (s .taken)
-unfolding freeRuns free
+unfolding freeRuns freeMemory
 eligible-vacant q s a h e b i j =
-    go (at (s .taken) b) (one-run-in (free (at (s .memory)) (at (s .taken))) (asks q) (q .size .0) a h (eligible-lies q (runsOf s) a e .run) .1 .all b i j)
+    go (at (s .taken) b) (one-run-in (freeMemory (at (s .memory)) (at (s .taken))) (asks q) (q .size .0) a h (eligible-lies q (runsOf s) a e .run) .1 .all b i j)
   where
     go : {t : Tag} (v : State) → untaken (usable (at (s .memory) b)) v ≡ Present t → v ≡ Absent
     go Absent f = refl
-    go (Present u) f = let z : _≡_ {A = ℕ} 0 1 = cc in absurd (omega arith)
+    go (Present u) f = absurd (zero-not-one cc)
 
 -- bottom-up, find gives the lowest eligible address, and none exactly when there is none
 pub found-lowest : (s : Contents) (q : Query) → s .settings .direction ≡ 1 → Gives (eligible (window (s .settings .limit .0) q) (runsOf s)) (λ b a. b < a) top (found s q)

@@ -21,7 +21,7 @@ use Rattle.block.proofs.Blocks.{tables-ok, good-contents}
 use Rattle.block.proofs.Reading.{Spellable, good-spelled-block}
 use Rattle.block.proofs.Layouts.{small-current}
 use Rattle.block.proofs.Kept.{change-kept, trim-kept}
-use Rattle.tables.specs.Commands.{outcome, done, store, Command, table, changeOf, legalVerb, commandOutcome, fresh, set, trim}
+use Rattle.tables.specs.Commands.{outcome, doneWith, store, Command, table, changeOf, legalVerb, commandOutcome, fresh, set, trim}
 use Rattle.tables.proofs.Verbs.{verb-keeps}
 use Rattle.tables.proofs.Printed.{fresh-spellable}
 
@@ -92,7 +92,7 @@ pub fresh-good : (b : List ℕ) → fresh current b .number ≡ 0 → good curre
 unfolding fresh
 fresh-good b h = go (eqb (length b) (blockLength current)) refl h
   where
-    go : (t : Bool) → eqb (length b) (blockLength current) ≡ t → cond t (done (blockBytes current freshContents)) (outcome 1 b) .number ≡ 0
-        → good current (cond t (done (blockBytes current freshContents)) (outcome 1 b) .block) ≡ true
+    go : (t : Bool) → eqb (length b) (blockLength current) ≡ t → cond t (doneWith (blockBytes current freshContents)) (outcome 1 b) .number ≡ 0
+        → good current (cond t (doneWith (blockBytes current freshContents)) (outcome 1 b) .block) ≡ true
     go true e n = good-spelled-block current small-current freshContents fresh-spellable
     go false e n = absurd (omega (arith, n))

@@ -14,12 +14,12 @@ use Rattle.regions.specs.Meaning.{region, at, join, push, total, top, top-is}
 use Rattle.regions.specs.Lists.{fits, rises, legal, legalTag, goodList}
 use Rattle.regions.specs.Changes.{change, cut, changed}
 use Rattle.regions.specs.Bytes.{bytes, regionBytes, regionsBytes, tableBytes}
-use Rattle.regions.proofs.Rises.{done, Canonical, rises-Rises}
+use Rattle.regions.proofs.Rises.{ended, Canonical, rises-Rises}
 use Rattle.regions.proofs.Count.{sizes}
 use Rattle.regions.proofs.RoundTrip.{rises-weaken}
 use Rattle.regions.proofs.Good.{total-is-sizes}
 use Rattle.regions.specs.Steps.{stretch}
-use Rattle.regions.proofs.Twins.{walk, update}
+use Rattle.regions.proofs.Update.{walk, update}
 use Rattle.regions.proofs.Update.{update-shortest}
 use Rattle.block.specs.Block.{current, capacity, offset, withList, freshContents, entryBytes, entriesBytes, settingsBytes, totalsBytes, headerBytes, blockBytes, goodTable, goodContents, good}
 use Rattle.tables.specs.declared.commands.Verb.the-variants.{Add}
@@ -86,7 +86,7 @@ unfolding changed
 first-changed =
     let e : cut 0x1000 0x1000 ≡ 0x2000 = cut-low 0x1000 0x1000 (omega (arith, top-is)) in
     let z : 0 ≤ top = omega arith in
-    rw e (sym (update-shortest (change (Fill (tag 0 0))) 0x1000 0x2000 top [] (omega arith) (omega (arith, top-is)) (done z)) ∙ first-updated)
+    rw e (sym (update-shortest (change (Fill (tag 0 0))) 0x1000 0x2000 top [] (omega arith) (omega (arith, top-is)) (ended z)) ∙ first-updated)
 
 first-canonical : Canonical top first
 unfolding rises fits

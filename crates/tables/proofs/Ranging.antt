@@ -12,7 +12,7 @@ use borrow.Author.Tests.{leb-true, eqb-true}
 use Rattle.address.specs.declared.Address.{Address}
 use Rattle.address.specs.declared.Size.{Size}
 use Rattle.address.specs.Numbers.{powerOfTwo}
-use Rattle.address.proofs.Tests.{both}
+use Rattle.address.proofs.Tests.{both, zero-not-one}
 use Rattle.address.proofs.Powers.{power-some}
 use Rattle.regions.specs.declared.Kind.{Kind}
 use Rattle.regions.specs.declared.Kind.the-variants.{Memory, Taken}
@@ -23,7 +23,7 @@ use Rattle.regions.specs.Meaning.{at, shortest, top, top-is}
 use Rattle.regions.specs.Lists.{legal, legalTag, goodList}
 use Rattle.regions.specs.Changes.{change, after, cut, changed}
 use Rattle.regions.specs.Bytes.{readRegions, tableBytes}
-use Rattle.regions.specs.Steps.{Weighs}
+use Rattle.regions.specs.Steps.{FlagBounded}
 use Rattle.regions.proofs.Records.{read-regions-length}
 use Rattle.regions.proofs.Rises.{Canonical}
 use Rattle.regions.proofs.Good.{good-rises, good-legal}
@@ -62,12 +62,12 @@ taken-tagged (r ∷ rs) e =
     (λ i. record { flags = f i; node = n i }, taken-tagged rs (p .1))
 
 -- what the rules of a table know changes flags by a weight
-known-weighs : (k : Kind) (c : Change) → Known k c → Weighs c
-known-weighs Memory c w = w
-known-weighs Taken (Fill t) w = tt
-known-weighs Taken Clear w = tt
-known-weighs Taken (Mark v) w = absurd w
-known-weighs Taken (Unmark v) w = absurd w
+known-flag-bounded : (k : Kind) (c : Change) → Known k c → FlagBounded c
+known-flag-bounded Memory c w = w
+known-flag-bounded Taken (Fill t) w = tt
+known-flag-bounded Taken Clear w = tt
+known-flag-bounded Taken (Mark v) w = absurd w
+known-flag-bounded Taken (Unmark v) w = absurd w
 
 -- in the taken table it makes one state of a range
 known-uniform : (c : Change) (xs : List Region) → Known Taken c → legal Taken xs ≡ true → Uniform c xs
@@ -79,7 +79,7 @@ known-uniform (Unmark v) xs w e = w
 -- the range of a command: its change, from base to the cut end
 pub editable : (k : Kind) (c : Change) (base hi : Address) (size : ℕ) → Known k c → base .0 < 18446744073709551616 → hi .0 ≡ cut (base .0) size
     → Editable (record { change = c; lo = base; hi = hi })
-editable k c base hi size w h e = record { weighs = known-weighs k c w; low = omega (arith, top-is); high = omega arith }
+editable k c base hi size w h e = record { flag-bounded = known-flag-bounded k c w; low = omega (arith, top-is); high = omega arith }
 
 -- the list that a block says, read from its part
 listed : (b : List ℕ) (k : Kind) → readRegions (tallyOf (readHeader b) k .count) (part current k b) ≡ listOf (contents current b) k
@@ -159,7 +159,7 @@ module _ (b : List ℕ) (g : good current b ≡ true) (k : Kind) (a e : ℕ) (ea
       no-room f = go (leb (length (changed c (base .0) size (listOf (contents current b) k))) (capacity current k)) answered
         where
           go : (t : Bool) → p ≡ cond t (To (tally (changed c (base .0) size (listOf (contents current b) k)))) NoRoom → t ≡ false
-          go true q = absurd (let z : _≡_ {A = ℕ} 0 1 = cc in omega arith)
+          go true q = absurd (zero-not-one cc)
           go false q = refl
 
       range-full : p ≡ NoRoom → outcome 6 (take a b ++ (x ++ drop (e - a) (drop a b))) ≡ changeRange current k c (base .0) size b
@@ -170,19 +170,19 @@ module _ (b : List ℕ) (g : good current b ≡ true) (k : Kind) (a e : ℕ) (ea
           rw (n, y, take-append-drop, take-append-drop)
 
       module _ (y : Tally) (f : p ≡ To y) where
-        told : (leb (length (changed c (base .0) size (listOf (contents current b) k))) (capacity current k) ≡ true) × (y ≡ tally (changed c (base .0) size (listOf (contents current b) k)))
+        answered-to : (leb (length (changed c (base .0) size (listOf (contents current b) k))) (capacity current k) ≡ true) × (y ≡ tally (changed c (base .0) size (listOf (contents current b) k)))
         unfolding storedAnswer
-        told = go (leb (length (changed c (base .0) size (listOf (contents current b) k))) (capacity current k)) answered
+        answered-to = go (leb (length (changed c (base .0) size (listOf (contents current b) k))) (capacity current k)) answered
           where
             go : (t : Bool) → p ≡ cond t (To (tally (changed c (base .0) size (listOf (contents current b) k)))) NoRoom
                 → (t ≡ true) × (y ≡ tally (changed c (base .0) size (listOf (contents current b) k)))
             go true q = (refl, cc)
-            go false q = absurd (let z : _≡_ {A = ℕ} 0 1 = cc in omega arith)
+            go false q = absurd (zero-not-one cc)
 
         range-done : Bytes b → outcome 0 (sets (take a b ++ (x ++ drop (e - a) (drop a b))) 0 (headerBytes current (withTally h k y))) ≡ changeRange current k c (base .0) size b
         unfolding store storedBytes
         range-done bs =
-            let v = told in
+            let v = answered-to in
             let m = leb-true (length (changed c (base .0) size (listOf (contents current b) k))) (capacity current k) (v .0) in
             let u : x ≡ tableBytes (length (take (e - a) (drop a b)) / 24) (changed c (base .0) size (listOf (contents current b) k)) = left ∙ rw (v .0, room-is) in
             let r = block-stored b bs g k a e ea ee (changed c (base .0) size (listOf (contents current b) k)) x u (y .count) (ap (λ (q : Tally). q .count) (v .1)) (omega (arith, ap (λ (q : Tally). q .count) (v .1))) h eh

@@ -10,7 +10,7 @@ use borrow.Author.Tests.{eq-eqb, ne-eqb, le-leb, lt-leb}
 use Rattle.address.specs.declared.Address.{Address}
 use Rattle.regions.specs.Meaning.{at, total, top}
 use Rattle.regions.specs.Bytes.{tableBytes, regionsBytes}
-use Rattle.regions.proofs.Rises.{done}
+use Rattle.regions.proofs.Rises.{ended}
 use Rattle.regions.proofs.Count.{sizes}
 use Rattle.regions.proofs.Good.{total-is-sizes}
 use Rattle.regions.proofs.Numbers.{Bytes}
@@ -27,7 +27,7 @@ use Rattle.block.proofs.Layouts.{small-current}
 
 pub total-empty : total (at []) top ≡ 0
 unfolding sizes
-total-empty = let l : 0 ≤ top = omega arith in total-is-sizes [] (done l)
+total-empty = let l : 0 ≤ top = omega arith in total-is-sizes [] (ended l)
 
 -- the header of a fresh block
 abbrev pub freshHeader : Header

@@ -23,7 +23,7 @@ use Rattle.regions.proofs.Good.{good-rises}
 use Rattle.block.specs.declared.Layout.{Layout}
 use Rattle.block.specs.Block.{capacity, Contents, listOf, withList, contents, good}
 use Rattle.tables.specs.declared.commands.Verb.the-variants.{Free}
-use Rattle.tables.specs.Commands.{done, store, changeRange, command, commandOutcome}
+use Rattle.tables.specs.Commands.{doneWith, store, changeRange, command, commandOutcome}
 use Rattle.block.proofs.Blocks.{room, lists-ok, good-contents, good-spelled}
 
 -- each address from base to the cut end of the range stands as the change leaves it
@@ -45,7 +45,7 @@ with-own s Memory = refl
 with-own s Taken = refl
 
 module _ (L : Layout) (b : List ℕ) (g : good L b ≡ true) where
-  pub unchanged : (k : Kind) (c : Change) (base size : ℕ) → Stays c base size (listOf (contents L b) k) → changeRange L k c base size b ≡ done b
+  pub unchanged : (k : Kind) (c : Change) (base size : ℕ) → Stays c base size (listOf (contents L b) k) → changeRange L k c base size b ≡ doneWith b
   unfolding store
   unchanged k c base size h =
       let xs : List Region = listOf (contents L b) k in
@@ -55,10 +55,10 @@ module _ (L : Layout) (b : List ℕ) (g : good L b ≡ true) where
         le-leb (length xs) (capacity L k) (room L (contents L b) p k),
         with-own (contents L b) k,
       )
-      (ap done (good-spelled L b g))
+      (ap doneWith (good-spelled L b g))
 
   -- a size of 0 changes nothing
-  pub size-zero : (k : Kind) (c : Change) (base : ℕ) → changeRange L k c base 0 b ≡ done b
+  pub size-zero : (k : Kind) (c : Change) (base : ℕ) → changeRange L k c base 0 b ≡ doneWith b
   size-zero k c base = unchanged k c base 0 (λ a e. absurd (none a e))
     where
       none : (a : ℕ) → inside base (cut base 0) a ≡ true → ⊥
@@ -66,6 +66,6 @@ module _ (L : Layout) (b : List ℕ) (g : good L b ≡ true) where
           omega (arith, inside-hi base (cut base 0) a e, leb-true base a (both (leb base a) _ e .0))
 
   -- freeing what is not taken changes nothing
-  pub free-untaken : (base size : ℕ) → ((a : ℕ) → inside base (cut base size) a ≡ true → at (contents L b .taken) a ≡ Absent) → commandOutcome L (command Free base size) b ≡ done b
+  pub free-untaken : (base size : ℕ) → ((a : ℕ) → inside base (cut base size) a ≡ true → at (contents L b .taken) a ≡ Absent) → commandOutcome L (command Free base size) b ≡ doneWith b
   unfolding commandOutcome change
   free-untaken base size h = rw g (unchanged Taken Clear base size (λ a e. sym (h a e)))

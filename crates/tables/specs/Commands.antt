@@ -28,26 +28,26 @@ abbrev pub outcome : ℕ → List ℕ → Outcome
 outcome n b = record { number = n; block = b }
 
 -- document 01's done
-abbrev pub done : List ℕ → Outcome
-done b = outcome 0 b
+abbrev pub doneWith : List ℕ → Outcome
+doneWith b = outcome 0 b
 
 -- refused with n, and the block as lent, unless the test holds
 abbrev pub unless : Bool → ℕ → List ℕ → Outcome → Outcome
 unless test n b o = cond test o (outcome n b)
 
 unfoldable pub fresh : Layout → List ℕ → Outcome
-fresh L b = unless (eqb (length b) (blockLength L)) 1 b (done (blockBytes L freshContents))
+fresh L b = unless (eqb (length b) (blockLength L)) 1 b (doneWith (blockBytes L freshContents))
 
 unfoldable pub set : Layout → ℕ → ℕ → List ℕ → Outcome
 set L limit direction b =
     let s = contents L b in
     unless (good L b) 1 b
     (unless (leb direction 1) 7 b
-    (done (blockBytes L (record { memory = s .memory; taken = s .taken; settings = settings limit direction }))))
+    (doneWith (blockBytes L (record { memory = s .memory; taken = s .taken; settings = settings limit direction }))))
 
 -- the block with another list in one of its tables, if the table has room for it
 unfoldable pub store : Layout → Kind → List Region → List ℕ → Outcome
-store L k xs b = unless (leb (length xs) (capacity L k)) 6 b (done (blockBytes L (withList (contents L b) k xs)))
+store L k xs b = unless (leb (length xs) (capacity L k)) 6 b (doneWith (blockBytes L (withList (contents L b) k xs)))
 
 -- a change made over a range of a table
 abbrev pub changeRange : Layout → Kind → Change → ℕ → ℕ → List ℕ → Outcome
@@ -105,4 +105,4 @@ commandOutcome L c b =
 unfoldable pub trim : Layout → ℕ → List ℕ → Outcome
 trim L align b =
     unless (good L b) 1 b
-    (unless (powerOfTwo align) 3 b (done (blockBytes L (withList (contents L b) Memory (trimmedList align (contents L b .memory))))))
+    (unless (powerOfTwo align) 3 b (doneWith (blockBytes L (withList (contents L b) Memory (trimmedList align (contents L b .memory))))))

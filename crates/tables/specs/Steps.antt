@@ -7,7 +7,7 @@ use Rattle.regions.specs.declared.Kind.{Kind}
 use Rattle.regions.specs.declared.Kind.the-variants.{Memory, Taken}
 use Rattle.regions.specs.declared.Change.{Change}
 use Rattle.regions.specs.declared.Change.the-variants.{Fill, Clear, Mark, Unmark}
-use Rattle.regions.specs.Steps.{Weighs}
+use Rattle.regions.specs.Steps.{FlagBounded}
 use Rattle.block.specs.declared.Header.{Header}
 use Rattle.block.specs.Block.{current, headerBytes}
 use Rattle.block.specs.Checks.{withTally}
@@ -17,7 +17,7 @@ use Rattle.tables.specs.Commands.{Outcome, outcome, tag}
 
 -- a change that the rules of a table know: in memory any, in the taken table only of its one tag, 0, 0
 abbrev pub Known : Kind → Change → Type 0
-Known Memory c = Weighs c
+Known Memory c = FlagBounded c
 Known Taken (Fill t) = t ≡ tag 0 0
 Known Taken Clear = Unit {0}
 Known Taken (Mark w) = ⊥

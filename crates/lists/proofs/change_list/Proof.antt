@@ -7,11 +7,11 @@ use Rattle.address.specs.declared.CheckedAddress.the-variants.{At}
 use Rattle.address.proofs.Checked.{address-at}
 use Rattle.regions.specs.Bytes.{readRegions}
 use Rattle.regions.specs.Changes.{change}
-use Rattle.regions.proofs.Twins.{walk}
+use Rattle.regions.proofs.Update.{walk}
 use Rattle.lists.specs.declared.Pushed.the-variants.{Count, Full}
 use Rattle.lists.specs.Steps.{finished}
 use Rattle.lists.proofs.Pushing.{holds-count}
-use Rattle.lists.proofs.Walking.{Ahead, walk-start, ahead-start, walk-low, walk-light, walk-past, walk-gap-full, walk-full, walk-next, walk-ahead, walk-end}
+use Rattle.lists.proofs.Walking.{Ahead, walk-start, ahead-start, walk-low, walk-flags-bounded, walk-past, walk-gap-full, walk-full, walk-next, walk-ahead, walk-end}
 use borrow.Author.Needs.{needs}
 use Rattle.lists.proofs.change_list.Statement.{statement}
 use Rattle.lists.proofs.change_list.Tie as tie
@@ -44,7 +44,7 @@ loop-holds c =
     let k = change (s .args .edit .change) in
     let lo = s .args .edit .lo .0 in
     let hi = s .args .edit .hi .0 in
-    (omega arith, (omega arith, (refl, (ahead-start k lo hi _ _ (d .low) (d .high) (p .rising) (p .light), walk-start k lo hi _ _ (d .low) (d .high) (p .rising) _))))
+    (omega arith, (omega arith, (refl, (ahead-start k lo hi _ _ (d .low) (d .high) (p .rising) (p .flags-bounded), walk-start k lo hi _ _ (d .low) (d .high) (p .rising) _))))
 
 mul-get-region : tie.Need-mul-get-region Inv-loop μ-loop
 mul-get-region c = search needs
@@ -99,7 +99,7 @@ push-record-requires c κs =
     let e = c .before .before .before .before .before .before .before .before .before .before .before .before .before .get-region .ensures in
     let x = c .before .before .before .before .before .before .push-gap in
     let q = address-at _ _ _ (c .before .before .before .before .before .before .before .before .before .before .before .before .end .ensures) (end-at (c .before .before .before .before .before .before .before .before .before)) .0 in
-    (holds-count _ _ _ _ (x .ensures) _ (gap-count (c .before)) .0, (omega (arith, x .kept .0, v .1 .1 .0), (q, (walk-light _ _ _ _ _ _ _ _ _ _ (v .1 .1 .1 .1) (v .1 .1 .1 .0) _ h e, c .before .before .before .before .before .before .before .before .before .before .before .before .before .before .before .before .before .before .before .pre .1))))
+    (holds-count _ _ _ _ (x .ensures) _ (gap-count (c .before)) .0, (omega (arith, x .kept .0, v .1 .1 .0), (q, (walk-flags-bounded _ _ _ _ _ _ _ _ _ _ (v .1 .1 .1 .1) (v .1 .1 .1 .0) _ h e, c .before .before .before .before .before .before .before .before .before .before .before .before .before .before .before .before .before .before .before .pre .1))))
 
 enum-known-k : tie.Need-enum-known-k Inv-loop μ-loop
 enum-known-k c = search needs

@@ -3,14 +3,14 @@ use Prim.Native.Nat.{_-_, _≤_}
 use lib.ListN.{length, take, drop}
 use mathlib.Core.Path.{_≡_}
 use mathlib.Core.Bool.{true}
-use Rattle.records.specs.Checks.{zeros}
+use Rattle.records.specs.Checks.{allZeros}
 use Rattle.records.proofs.Zeros.{none-yet, zero-turn, turn-hit, zero-last}
 use borrow.Author.Needs.{needs}
 use Rattle.records.proofs.table.all_zero.Statement.{statement}
 use Rattle.records.proofs.table.all_zero.Tie as tie
 
 abbrev Inv-loop : tie.InvT-loop
-Inv-loop t at n i₀ i = (at ≤ i) × ((i ≤ length t) × (zeros (take (i - at) (drop at t)) ≡ true))
+Inv-loop t at n i₀ i = (at ≤ i) × ((i ≤ length t) × (allZeros (take (i - at) (drop at t)) ≡ true))
 
 abbrev μ-loop : tie.MeasureT-loop
 μ-loop t at n i₀ i = length t - i

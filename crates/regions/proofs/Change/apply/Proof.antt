@@ -2,7 +2,7 @@
 use Rattle.regions.specs.declared.State.the-variants.{Present}
 use Rattle.regions.specs.declared.Change.the-variants.{Mark, Unmark}
 use mathlib.Core.Path.{_≡_}
-use Rattle.regions.proofs.Fitting.{fill-absent, clear-absent, mark-absent, unmark-absent, fill-present, clear-present, mark-present, unmark-present, weighs-mark, weighs-unmark, light-flags}
+use Rattle.regions.proofs.Fitting.{fill-absent, clear-absent, mark-absent, unmark-absent, fill-present, clear-present, mark-present, unmark-present, flag-bounded-mark, flag-bounded-unmark, flags-bounded-flags}
 use borrow.Author.Needs.{needs}
 use Rattle.regions.proofs.Change.apply.Statement.{statement}
 use Rattle.regions.proofs.Change.apply.Tie as tie
@@ -39,8 +39,8 @@ with-flag-requires c κs =
     let s = c .before .before .before .before .before .before in
     let e : s .args .self ≡ Mark (c .before .self5 .given .0 .0) = search needs in
     let p : s .args .state ≡ Present (c .before .before .before .before .state .given .0 .0) = search needs in
-    let w = weighs-mark _ (s .args .state) _ e (s .pre .0) in
-    (w .0, (w .1, light-flags (s .args .self) _ _ p (s .pre .1)))
+    let w = flag-bounded-mark _ (s .args .state) _ e (s .pre .0) in
+    (w .0, (w .1, flags-bounded-flags (s .args .self) _ _ p (s .pre .1)))
 
 enum-known-self-6 : tie.Need-enum-known-self-6
 enum-known-self-6 c = search needs
@@ -49,7 +49,7 @@ without-flag-requires : tie.Need-without-flag-requires
 without-flag-requires c κs =
     let s = c .before .before .before .before .before .before in
     let e : s .args .self ≡ Unmark (c .before .self6 .given .0 .0) = search needs in
-    weighs-unmark _ (s .args .state) _ e (s .pre .0) .0
+    flag-bounded-unmark _ (s .args .state) _ e (s .pre .0) .0
 
 returns : tie.Need-returns
 returns c = search (fill-absent, clear-absent, mark-absent, unmark-absent, fill-present, clear-present, mark-present, unmark-present, needs)

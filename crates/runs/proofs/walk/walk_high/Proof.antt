@@ -1,7 +1,7 @@
 -- `runs::walk::walk_high` meets its contract. Both invariants: what is still to be walked, the records and taken records below, gives the answer for the whole.
 use Rattle.regions.specs.Bytes.{readRegions}
 use Rattle.runs.specs.Steps.{highestIn}
-use Rattle.runs.proofs.Twins.{Down}
+use Rattle.runs.proofs.Ways.{Down}
 use Rattle.runs.proofs.Steps.{Walking, Gap, remain, begin-down, past-down, enter, covered, room, some-taken, less, onward, leave, skip, over, in-gap, in-last}
 use borrow.Author.Needs.{needs}
 use Rattle.runs.proofs.walk.walk_high.Statement.{statement}

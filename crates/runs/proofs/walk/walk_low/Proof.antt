@@ -1,7 +1,7 @@
 -- `runs::walk::walk_low` meets its contract. Both invariants: what is still to be walked, the records and taken records behind, gives the answer for the whole.
 use Rattle.regions.specs.Bytes.{readRegions}
 use Rattle.runs.specs.Steps.{lowestIn}
-use Rattle.runs.proofs.Twins.{Up}
+use Rattle.runs.proofs.Ways.{Up}
 use Rattle.runs.proofs.Steps.{Walking, Gap, remain, memory-table, taken-table, begin-up, past-up, enter, covered, room, less, onward, leave, skip, over, in-gap, in-last}
 use borrow.Author.Needs.{needs}
 use Rattle.runs.proofs.walk.walk_low.Statement.{statement}

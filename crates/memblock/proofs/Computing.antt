@@ -10,7 +10,7 @@ use lib.ListN.{length, replicate}
 use lib.Pow.{pow-pos}
 use borrow.Author.Tests.{leb-true, ltb-true, eqb-false, not-true, eqb-true}
 use Rattle.address.specs.Numbers.{powerOfTwo}
-use Rattle.address.proofs.Tests.{both}
+use Rattle.address.proofs.Tests.{both, zero-not-one}
 use Rattle.address.proofs.Powers.{power-is, power-some}
 use Rattle.regions.specs.declared.Kind.{Kind}
 use Rattle.regions.specs.declared.Kind.the-variants.{Memory, Taken}
@@ -25,7 +25,7 @@ use Rattle.regions.specs.Trim.{roundEach}
 use Rattle.regions.proofs.Rises.{Canonical}
 use Rattle.regions.proofs.Good.{good-rises}
 use Rattle.regions.proofs.Trim.{trim-rounds}
-use Rattle.regions.proofs.Twins.{update}
+use Rattle.regions.proofs.Update.{update}
 use Rattle.regions.proofs.Update.{update-shortest}
 use Rattle.block.specs.Block.{current, capacity, settings, Contents, listOf, withList, blockBytes, contents, goodTable, goodContents, good}
 use Rattle.tables.specs.Commands.{outcome, store, tag, changeRange, Command, table, changeOf, legalVerb, commandOutcome, set, trim}
@@ -39,7 +39,7 @@ use Rattle.regions.specs.declared.Run.{Run}
 use Rattle.runs.specs.Steps.{Hit, hitOf, lowestIn, highestIn}
 use Rattle.search.proofs.Found.{eligible-below, found-eligible}
 use Rattle.search.proofs.Answering.{number-ready}
-use Rattle.runs.proofs.Twins.{Up, Down, walk, falling}
+use Rattle.runs.proofs.Ways.{Up, Down, walk, falling}
 use Rattle.runs.proofs.Walks.{walk-lowest, walk-highest}
 use Rattle.memblock.specs.Calls.{Call, toFresh, toSet, toCommand, toTrim, toFind, toNextFree, toAllocate, toIntake, answerOf, answers}
 
@@ -59,20 +59,20 @@ sound-spellable s e =
 
 -- ---- what a call makes of contents
 
-pub record Played : Type 0 where
+pub record Result : Type 0 where
   pub number : ℕ
   pub after : Contents
   pub slip : List ℕ
 
-abbrev pub played : ℕ → Contents → List ℕ → Played
-played n s slip = record { number = n; after = s; slip = slip }
+abbrev pub result : ℕ → Contents → List ℕ → Result
+result n s slip = record { number = n; after = s; slip = slip }
 
 -- a change over a range of a table
 abbrev edited : Contents → Kind → Change → ℕ → ℕ → List Region
 edited s k c base size = update (change c) base (min (base + size) 18446744073709551615) (listOf s k)
 
-abbrev kept : Contents → Kind → List Region → List ℕ → List ℕ → Played
-kept s k xs done full = cond (leb (length xs) (capacity current k)) (played 0 (withList s k xs) done) (played 6 s full)
+abbrev kept : Contents → Kind → List Region → List ℕ → List ℕ → Result
+kept s k xs done full = cond (leb (length xs) (capacity current k)) (result 0 (withList s k xs) done) (result 6 s full)
 
 -- what find finds
 abbrev hitAt : Option Hit → Option ℕ
@@ -85,41 +85,41 @@ seek s q =
     cond (eqb (s .settings .direction) 1) (hitAt (walk Up w (s .memory) (s .taken)))
     (hitAt (walk Down w (falling (s .memory)) (falling (s .taken))))
 
-abbrev finds : Contents → Query → Option ℕ → Played
-finds s q none = played 5 s (replicate 16 0)
-finds s q (some a) = played 0 s (slipOf a (a + q .size .0))
+abbrev finds : Contents → Query → Option ℕ → Result
+finds s q none = result 5 s (replicate 16 0)
+finds s q (some a) = result 0 s (slipOf a (a + q .size .0))
 
-abbrev takes : Contents → Query → Option ℕ → Played
-takes s q none = played 5 s (replicate 16 0)
+abbrev takes : Contents → Query → Option ℕ → Result
+takes s q none = result 5 s (replicate 16 0)
 takes s q (some a) = kept s Taken (edited s Taken (Fill (tag 0 0)) a (q .size .0)) (slipOf a (a + q .size .0)) (replicate 16 0)
 
-unfoldable pub play : Call → Contents → Played
-play toFresh s = played 0 s []
-play (toSet limit direction) s = played 0 (record { memory = s .memory; taken = s .taken; settings = settings limit direction }) []
-play (toCommand c) s = kept s (table (c .verb)) (edited s (table (c .verb)) (changeOf (c .verb)) (c .base) (c .size)) [] []
-play (toTrim align) s = played 0 (withList s Memory (roundEach align (s .memory))) []
-play (toFind q slip) s = finds s q (seek s q)
-play (toNextFree from node slip) s = played 0 s []
-play (toAllocate q slip) s = takes s q (seek s q)
-play (toIntake report) s = played 0 s []
+unfoldable pub compute : Call → Contents → Result
+compute toFresh s = result 0 s []
+compute (toSet limit direction) s = result 0 (record { memory = s .memory; taken = s .taken; settings = settings limit direction }) []
+compute (toCommand c) s = kept s (table (c .verb)) (edited s (table (c .verb)) (changeOf (c .verb)) (c .base) (c .size)) [] []
+compute (toTrim align) s = result 0 (withList s Memory (roundEach align (s .memory))) []
+compute (toFind q slip) s = finds s q (seek s q)
+compute (toNextFree from node slip) s = result 0 s []
+compute (toAllocate q slip) s = takes s q (seek s q)
+compute (toIntake report) s = result 0 s []
 
 -- the call is one that this twin works out: no check refuses it
 abbrev asks : Query → List ℕ → Bool
 asks q slip = eqb (length slip) 16 && eqb (refusal q) 0
 
-unfoldable pub playable : Call → Bool
-playable toFresh = false
-playable (toSet limit direction) = leb direction 1
-playable (toCommand c) = legalVerb (c .verb) && leb (c .base) 18446744073709551615
-playable (toTrim align) = powerOfTwo align
-playable (toFind q slip) = asks q slip
-playable (toNextFree from node slip) = false
-playable (toAllocate q slip) = asks q slip
-playable (toIntake report) = false
+unfoldable pub computable : Call → Bool
+computable toFresh = false
+computable (toSet limit direction) = leb direction 1
+computable (toCommand c) = legalVerb (c .verb) && leb (c .base) 18446744073709551615
+computable (toTrim align) = powerOfTwo align
+computable (toFind q slip) = asks q slip
+computable (toNextFree from node slip) = false
+computable (toAllocate q slip) = asks q slip
+computable (toIntake report) = false
 
--- the answer that is played
-abbrev pub told : Played → Answer
-told p = answer (p .number) (blockBytes current (p .after)) (p .slip)
+-- the answer that is result
+abbrev pub spelled : Result → Answer
+spelled p = answer (p .number) (blockBytes current (p .after)) (p .slip)
 
 module _ (s : Contents) (sp : Spellable current s) where
   b : List ℕ
@@ -160,27 +160,27 @@ module _ (s : Contents) (sp : Spellable current s) where
 
   -- ---- the calls
 
-  set-played : (limit direction : ℕ) → leb direction 1 ≡ true → answerOf (toSet limit direction) (blockBytes current s) ≡ told (play (toSet limit direction) s)
-  unfolding answerOf play set
-  set-played limit direction e = rw (isGood, e, says)
+  set-computed : (limit direction : ℕ) → leb direction 1 ≡ true → answerOf (toSet limit direction) (blockBytes current s) ≡ spelled (compute (toSet limit direction) s)
+  unfolding answerOf compute set
+  set-computed limit direction e = rw (isGood, e, says)
 
-  command-played : (c : Command) → legalVerb (c .verb) ≡ true → c .base ≤ 18446744073709551615
-      → answerOf (toCommand c) (blockBytes current s) ≡ told (play (toCommand c) s)
-  unfolding answerOf commandOutcome play
-  command-played c e h =
+  command-computed : (c : Command) → legalVerb (c .verb) ≡ true → c .base ≤ 18446744073709551615
+      → answerOf (toCommand c) (blockBytes current s) ≡ spelled (compute (toCommand c) s)
+  unfolding answerOf commandOutcome compute
+  command-computed c e h =
       rw (isGood, e, range-is (table (c .verb)) (changeOf (c .verb)) (c .base) (c .size) h)
       (go (leb (length (edited s (table (c .verb)) (changeOf (c .verb)) (c .base) (c .size))) (capacity current (table (c .verb)))))
     where
       go : (t : Bool)
           → answer (cond t (outcome 0 (blockBytes current (withList s (table (c .verb)) (edited s (table (c .verb)) (changeOf (c .verb)) (c .base) (c .size))))) (outcome 6 (blockBytes current s)) .number)
           (cond t (outcome 0 (blockBytes current (withList s (table (c .verb)) (edited s (table (c .verb)) (changeOf (c .verb)) (c .base) (c .size))))) (outcome 6 (blockBytes current s)) .block) []
-          ≡ told (cond t (played 0 (withList s (table (c .verb)) (edited s (table (c .verb)) (changeOf (c .verb)) (c .base) (c .size))) []) (played 6 s []))
+          ≡ spelled (cond t (result 0 (withList s (table (c .verb)) (edited s (table (c .verb)) (changeOf (c .verb)) (c .base) (c .size))) []) (result 6 s []))
       go true = refl
       go false = refl
 
-  trim-played : (align : ℕ) → powerOfTwo align ≡ true → answerOf (toTrim align) (blockBytes current s) ≡ told (play (toTrim align) s)
-  unfolding answerOf play trim
-  trim-played align e =
+  trim-computed : (align : ℕ) → powerOfTwo align ≡ true → answerOf (toTrim align) (blockBytes current s) ≡ spelled (compute (toTrim align) s)
+  unfolding answerOf compute trim
+  trim-computed align e =
       let p = power-is 64 align e in
       let h : 0 < align = omega (arith, pow-pos (p .0), p .2) in
       rw (isGood, e, says, trim-rounds align (s .memory) h (canonical Memory))
@@ -192,31 +192,31 @@ module _ (s : Contents) (sp : Spellable current s) where
       let t = number-ready current (blockBytes current s) q n in
       (rw (p .0, isGood, p .1), (t .1, power-some (q .align .0) (t .0 .1)))
 
-  find-played : (q : Query) (slip : List ℕ) → asks q slip ≡ true → answerOf (toFind q slip) (blockBytes current s) ≡ told (play (toFind q slip) s)
-  unfolding answerOf play find
-  find-played q slip e =
+  find-computed : (q : Query) (slip : List ℕ) → asks q slip ≡ true → answerOf (toFind q slip) (blockBytes current s) ≡ spelled (compute (toFind q slip) s)
+  unfolding answerOf compute find
+  find-computed q slip e =
       let a : Answer = findAnswer (blockBytes current s) (q .size .0) (found (contents current (blockBytes current s)) q) in
       let w = asked-is q slip e a in
       w .0 ∙ rw (says, seek-is q (w .1 .0) (w .1 .1)) (go (seek s q))
     where
-      go : (o : Option ℕ) → findAnswer (blockBytes current s) (q .size .0) o ≡ told (finds s q o)
+      go : (o : Option ℕ) → findAnswer (blockBytes current s) (q .size .0) o ≡ spelled (finds s q o)
       go none = refl
       go (some x) = refl
 
-  allocate-played : (q : Query) (slip : List ℕ) → asks q slip ≡ true → answerOf (toAllocate q slip) (blockBytes current s) ≡ told (play (toAllocate q slip) s)
-  unfolding answerOf play allocate
-  allocate-played q slip e =
+  allocate-computed : (q : Query) (slip : List ℕ) → asks q slip ≡ true → answerOf (toAllocate q slip) (blockBytes current s) ≡ spelled (compute (toAllocate q slip) s)
+  unfolding answerOf compute allocate
+  allocate-computed q slip e =
       let a : Answer = allocateAnswer current (blockBytes current s) (q .size .0) (found (contents current (blockBytes current s)) q) in
       let w = asked-is q slip e a in
-      w .0 ∙ rw says (go (found s q) refl (w .1 .0) ∙ ap (λ (o : Option ℕ). told (takes s q o)) (seek-is q (w .1 .0) (w .1 .1)))
+      w .0 ∙ rw says (go (found s q) refl (w .1 .0) ∙ ap (λ (o : Option ℕ). spelled (takes s q o)) (seek-is q (w .1 .0) (w .1 .1)))
     where
       by : (x : ℕ) (t : Bool)
           → reserved (blockBytes current s) x (q .size .0) (cond t (outcome 0 (blockBytes current (withList s Taken (edited s Taken (Fill (tag 0 0)) x (q .size .0))))) (outcome 6 (blockBytes current s)))
-          ≡ told (cond t (played 0 (withList s Taken (edited s Taken (Fill (tag 0 0)) x (q .size .0))) (slipOf x (x + q .size .0))) (played 6 s (replicate 16 0)))
+          ≡ spelled (cond t (result 0 (withList s Taken (edited s Taken (Fill (tag 0 0)) x (q .size .0))) (slipOf x (x + q .size .0))) (result 6 s (replicate 16 0)))
       by x true = refl
       by x false = refl
 
-      go : (o : Option ℕ) → found s q ≡ o → 0 < q .size .0 → allocateAnswer current (blockBytes current s) (q .size .0) o ≡ told (takes s q o)
+      go : (o : Option ℕ) → found s q ≡ o → 0 < q .size .0 → allocateAnswer current (blockBytes current s) (q .size .0) o ≡ spelled (takes s q o)
       go none h i = refl
       go (some x) h i =
           let l = eligible-below (window (s .settings .limit .0) q) s x i (found-eligible s q x h) in
@@ -224,33 +224,33 @@ module _ (s : Contents) (sp : Spellable current s) where
 
 -- ---- a list of calls
 
-pub call-played : (c : Call) (s : Contents) → Spellable current s → playable c ≡ true → answerOf c (blockBytes current s) ≡ told (play c s)
-unfolding playable
-call-played toFresh s sp e = let z : _≡_ {A = ℕ} 0 1 = cc in absurd (omega arith)
-call-played (toSet limit direction) s sp e = set-played s sp limit direction e
-call-played (toCommand c) s sp e =
+pub call-computed : (c : Call) (s : Contents) → Spellable current s → computable c ≡ true → answerOf c (blockBytes current s) ≡ spelled (compute c s)
+unfolding computable
+call-computed toFresh s sp e = absurd (zero-not-one cc)
+call-computed (toSet limit direction) s sp e = set-computed s sp limit direction e
+call-computed (toCommand c) s sp e =
     let p = both (legalVerb (c .verb)) (leb (c .base) 18446744073709551615) e in
-    command-played s sp c (p .0) (leb-true (c .base) 18446744073709551615 (p .1))
-call-played (toTrim align) s sp e = trim-played s sp align e
-call-played (toFind q slip) s sp e = find-played s sp q slip e
-call-played (toNextFree from node slip) s sp e = let z : _≡_ {A = ℕ} 0 1 = cc in absurd (omega arith)
-call-played (toAllocate q slip) s sp e = allocate-played s sp q slip e
-call-played (toIntake report) s sp e = let z : _≡_ {A = ℕ} 0 1 = cc in absurd (omega arith)
+    command-computed s sp c (p .0) (leb-true (c .base) 18446744073709551615 (p .1))
+call-computed (toTrim align) s sp e = trim-computed s sp align e
+call-computed (toFind q slip) s sp e = find-computed s sp q slip e
+call-computed (toNextFree from node slip) s sp e = absurd (zero-not-one cc)
+call-computed (toAllocate q slip) s sp e = allocate-computed s sp q slip e
+call-computed (toIntake report) s sp e = absurd (zero-not-one cc)
 
-unfoldable pub plays : List Call → Contents → List Played
-plays [] s = []
-plays (c ∷ cs) s = play c s ∷ plays cs (play c s .after)
+unfoldable pub computeAll : List Call → Contents → List Result
+computeAll [] s = []
+computeAll (c ∷ cs) s = compute c s ∷ computeAll cs (compute c s .after)
 
 -- each call is one that the twin works out, on contents that can stand in a block
-unfoldable pub allPlayable : List Call → Contents → Bool
-allPlayable [] s = true
-allPlayable (c ∷ cs) s = (sound s && playable c) && allPlayable cs (play c s .after)
+unfoldable pub allComputable : List Call → Contents → Bool
+allComputable [] s = true
+allComputable (c ∷ cs) s = (sound s && computable c) && allComputable cs (compute c s .after)
 
-pub answers-played : (cs : List Call) (s : Contents) → allPlayable cs s ≡ true → answers cs (blockBytes current s) ≡ map told (plays cs s)
-unfolding answers plays allPlayable
-answers-played [] s e = refl
-answers-played (c ∷ cs) s e =
-    let p = both (sound s && playable c) (allPlayable cs (play c s .after)) e in
-    let q = both (sound s) (playable c) (p .0) in
-    let a = call-played c s (sound-spellable s (q .0)) (q .1) in
-    ap₂ (λ (x : Answer) (xs : List Answer). x ∷ xs) a (ap (λ (x : Answer). answers cs (x .block)) a ∙ answers-played cs (play c s .after) (p .1))
+pub answers-computed : (cs : List Call) (s : Contents) → allComputable cs s ≡ true → answers cs (blockBytes current s) ≡ map spelled (computeAll cs s)
+unfolding answers computeAll allComputable
+answers-computed [] s e = refl
+answers-computed (c ∷ cs) s e =
+    let p = both (sound s && computable c) (allComputable cs (compute c s .after)) e in
+    let q = both (sound s) (computable c) (p .0) in
+    let a = call-computed c s (sound-spellable s (q .0)) (q .1) in
+    ap₂ (λ (x : Answer) (xs : List Answer). x ∷ xs) a (ap (λ (x : Answer). answers cs (x .block)) a ∙ answers-computed cs (compute c s .after) (p .1))

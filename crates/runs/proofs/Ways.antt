@@ -1,4 +1,4 @@
--- Executable twins of the walks: records and the gaps in them, upwards and downwards. Assumes nothing.
+-- The walks worked out on lists, upwards and downwards: records and the gaps in them. Assumes nothing.
 use Prim.Native.Nat.{ℕ, min, max}
 use mathlib.Core.Bool.{Bool, cond}
 use mathlib.Core.List.{List, [], _∷_}

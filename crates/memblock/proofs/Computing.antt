@@ -1,14 +1,14 @@
 -- Calls worked out on what a block says: an executable twin of the definitions, for calls that no check refuses. Assumes nothing.
 use Prim.Native.Nat.{ℕ, _+_, _≤_, _<_, min}
 use mathlib.Core.Path.{_≡_, refl, sym, ap, ap₂, _∙_}
-use mathlib.Core.Bool.{Bool, true, false, cond, not, _&&_}
+use mathlib.Core.Bool.{Bool, true, false, cond, _&&_}
 use mathlib.Core.List.{List, [], _∷_, map}
 use mathlib.Core.Option.{Option, none, some}
 use native.Mathlib.Omega.{arith}
 use lib.Dec.{leb, ltb, eqb}
 use lib.ListN.{length, replicate}
 use lib.Pow.{pow-pos}
-use borrow.Author.Tests.{leb-true, ltb-true, eqb-false, not-true, eqb-true}
+use borrow.Author.Tests.{leb-true, ltb-true, eqb-true}
 use Rattle.address.specs.Numbers.{powerOfTwo}
 use Rattle.address.proofs.Tests.{both, zero-not-one}
 use Rattle.address.proofs.Powers.{power-is, power-some}
@@ -21,6 +21,7 @@ use Rattle.regions.specs.declared.Change.the-variants.{Fill}
 use Rattle.regions.specs.Meaning.{top, top-is}
 use Rattle.regions.specs.Lists.{rises, legal, goodList}
 use Rattle.regions.specs.Changes.{change, cut, changed}
+use Rattle.regions.specs.Runs.{runAt}
 use Rattle.regions.specs.Trim.{roundEach}
 use Rattle.regions.proofs.Rises.{Canonical}
 use Rattle.regions.proofs.Good.{good-rises}
@@ -33,10 +34,11 @@ use Rattle.block.proofs.Blocks.{lists-ok}
 use Rattle.block.proofs.Reading.{Spellable, contents-spelled, good-spelled-block}
 use Rattle.block.proofs.Layouts.{small-current}
 use Rattle.runs.specs.declared.Query.{Query}
-use Rattle.search.specs.Search.{window, found}
+use Rattle.search.specs.Search.{window, runsOf, found, foundPlace}
 use Rattle.search.specs.Answers.{Answer, answer, slipOf, refusal, checkNumber, asking, find, findAnswer, allocate, allocateAnswer, reserved}
 use Rattle.regions.specs.declared.Run.{Run}
-use Rattle.runs.specs.Steps.{Hit, hitOf, lowestIn, highestIn}
+use Rattle.runs.specs.Places.{Hit, hitOf, placeOf}
+use Rattle.runs.specs.Steps.{lowestIn, highestIn}
 use Rattle.search.proofs.Found.{eligible-below, found-eligible}
 use Rattle.search.proofs.Answering.{number-ready}
 use Rattle.runs.proofs.Ways.{Up, Down, walk, falling}
@@ -185,7 +187,7 @@ module _ (s : Contents) (sp : Spellable current s) where
       let h : 0 < align = omega (arith, pow-pos (p .0), p .2) in
       rw (isGood, e, says, trim-rounds align (s .memory) h (canonical Memory))
 
-  asked-is : (q : Query) (slip : List ℕ) → asks q slip ≡ true → (a : Answer) → (asking current q (blockBytes current s) slip a ≡ a) × ((0 < q .size .0) × (0 < q .align .0))
+  asked-is : (q : Query) (slip : List ℕ) → asks q slip ≡ true → (a : Answer) → (asking (checkNumber current q (blockBytes current s)) (blockBytes current s) slip a ≡ a) × ((0 < q .size .0) × (0 < q .align .0))
   asked-is q slip e a =
       let p = both (eqb (length slip) 16) (eqb (refusal q) 0) e in
       let n : checkNumber current q (blockBytes current s) ≡ 0 = rw isGood (eqb-true (refusal q) 0 (p .1)) in
@@ -193,20 +195,20 @@ module _ (s : Contents) (sp : Spellable current s) where
       (rw (p .0, isGood, p .1), (t .1, power-some (q .align .0) (t .0 .1)))
 
   find-computed : (q : Query) (slip : List ℕ) → asks q slip ≡ true → answerOf (toFind q slip) (blockBytes current s) ≡ spelled (compute (toFind q slip) s)
-  unfolding answerOf compute find
+  unfolding answerOf compute find foundPlace
   find-computed q slip e =
-      let a : Answer = findAnswer (blockBytes current s) (q .size .0) (found (contents current (blockBytes current s)) q) in
+      let a : Answer = findAnswer (blockBytes current s) (q .size .0) (foundPlace (contents current (blockBytes current s)) q) in
       let w = asked-is q slip e a in
       w .0 ∙ rw (says, seek-is q (w .1 .0) (w .1 .1)) (go (seek s q))
     where
-      go : (o : Option ℕ) → findAnswer (blockBytes current s) (q .size .0) o ≡ spelled (finds s q o)
+      go : (o : Option ℕ) → findAnswer (blockBytes current s) (q .size .0) (placeOf (hitOf (runAt (runsOf s)) o)) ≡ spelled (finds s q o)
       go none = refl
       go (some x) = refl
 
   allocate-computed : (q : Query) (slip : List ℕ) → asks q slip ≡ true → answerOf (toAllocate q slip) (blockBytes current s) ≡ spelled (compute (toAllocate q slip) s)
-  unfolding answerOf compute allocate
+  unfolding answerOf compute allocate foundPlace
   allocate-computed q slip e =
-      let a : Answer = allocateAnswer current (blockBytes current s) (q .size .0) (found (contents current (blockBytes current s)) q) in
+      let a : Answer = allocateAnswer current (blockBytes current s) (q .size .0) (foundPlace (contents current (blockBytes current s)) q) in
       let w = asked-is q slip e a in
       w .0 ∙ rw says (go (found s q) refl (w .1 .0) ∙ ap (λ (o : Option ℕ). spelled (takes s q o)) (seek-is q (w .1 .0) (w .1 .1)))
     where
@@ -216,7 +218,8 @@ module _ (s : Contents) (sp : Spellable current s) where
       by x true = refl
       by x false = refl
 
-      go : (o : Option ℕ) → found s q ≡ o → 0 < q .size .0 → allocateAnswer current (blockBytes current s) (q .size .0) o ≡ spelled (takes s q o)
+      go : (o : Option ℕ) → found s q ≡ o → 0 < q .size .0
+          → allocateAnswer current (blockBytes current s) (q .size .0) (placeOf (hitOf (runAt (runsOf s)) o)) ≡ spelled (takes s q o)
       go none h i = refl
       go (some x) h i =
           let l = eligible-below (window (s .settings .limit .0) q) s x i (found-eligible s q x h) in

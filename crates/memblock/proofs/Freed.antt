@@ -13,8 +13,9 @@ use Rattle.regions.specs.declared.State.the-variants.{Present}
 use Rattle.regions.specs.Meaning.{at}
 use Rattle.regions.specs.Changes.{change, cut}
 use Rattle.regions.specs.Free.{usable, freeMemory, freeRuns}
+use Rattle.regions.specs.Runs.{OneTag}
 use Rattle.regions.proofs.RoundTrip.{inside-yes}
-use Rattle.regions.proofs.Lying.{OneTag, in-one-run}
+use Rattle.regions.proofs.Lying.{in-one-run}
 use Rattle.block.specs.Block.{current, contents, good}
 use Rattle.tables.specs.declared.commands.Verb.the-variants.{Free}
 use Rattle.tables.specs.Commands.{Command, command}

@@ -3,7 +3,6 @@ use Prim.Native.Nat.{ℕ, _+_}
 use mathlib.Core.Path.{_≡_, refl, ap, _∙_}
 use mathlib.Core.Bool.{Bool, true, false, cond}
 use mathlib.Core.List.{List, []}
-use mathlib.Core.Option.{Option, none, some}
 use native.Mathlib.Omega.{arith}
 use lib.Dec.{leb, eqb}
 use lib.ListN.{length, replicate}
@@ -21,8 +20,10 @@ use Rattle.intake.specs.Turns.{inTurn, wholly}
 use Rattle.intake.specs.E820.{entries, readable, entrySteps, intakeE820}
 use Rattle.intake.proofs.Good.{intake-good}
 use Rattle.runs.specs.declared.Query.{Query}
-use Rattle.search.specs.Search.{found, lowestFree}
-use Rattle.search.specs.Answers.{Answer, answer, refuse, unless as unlessAnswer, slipOf, withSlip, nodeKnown, refusal, checkNumber, find, findAnswer, allocate, allocateAnswer, reserved, nextFree, nextFreeAnswer}
+use Rattle.runs.specs.declared.fit.Place.{Place}
+use Rattle.runs.specs.declared.fit.Place.the-variants.{Here, Nowhere}
+use Rattle.search.specs.Search.{foundPlace, nextPlace}
+use Rattle.search.specs.Answers.{Answer, answer, refuse, unless as unlessAnswer, slipOf, withSlip, asking, nodeKnown, refusal, checkNumber, nextNumber, find, findAnswer, allocate, allocateAnswer, reserved, nextFree, nextFreeAnswer}
 use Rattle.memblock.specs.Calls.{Call, toFresh, toSet, toCommand, toTrim, toFind, toNextFree, toAllocate, toIntake, plain, answerOf}
 use Rattle.memblock.specs.Refusals.{slipLent, RefusalSentence, DoneSentence}
 
@@ -143,33 +144,30 @@ module _ (b slip : List ℕ) where
     done-fair c s g = record { block = λ d. absurd (d refl); zero = λ d m. absurd (d refl); lent = λ d m. absurd (d refl); isGood = λ z. g }
 
 -- the checks let only a good block pass
-check-good : (q : Query) (b : List ℕ) → checkNumber current q b ≡ 0 → good current b ≡ true
-check-good q b e = go (good current b) refl e
+checks-good : (b : List ℕ) (n : ℕ) → cond (good current b) n 1 ≡ 0 → good current b ≡ true
+checks-good b n e = go (good current b) refl e
   where
-    go : (t : Bool) → good current b ≡ t → cond t (refusal q) 1 ≡ 0 → t ≡ true
+    go : (t : Bool) → good current b ≡ t → cond t n 1 ≡ 0 → t ≡ true
     go true g h = refl
     go false g h = absurd (omega (arith, h))
 
 module _ (b slip : List ℕ) where
-  -- what find and allocate answer past their checks
-  asking-fair : (q : Query) (x : Answer) → (length slip ≡ 16 → good current b ≡ true → Fair b slip x)
-      → Fair b slip (withSlip b slip (unlessAnswer (eqb (checkNumber current q b) 0) (checkNumber current q b) b x))
-  asking-fair q x h =
-      with-slip-fair b slip _
-      (λ l. unless-fair b slip l (eqb (checkNumber current q b) 0) (checkNumber current q b) x (eqb-false (checkNumber current q b) 0)
-      (λ e. h l (check-good q b (eqb-true (checkNumber current q b) 0 e))))
+  -- what is answered past the checks
+  asking-fair : (n : ℕ) (x : Answer) → (n ≡ 0 → good current b ≡ true) → (length slip ≡ 16 → good current b ≡ true → Fair b slip x) → Fair b slip (asking n b slip x)
+  asking-fair n x c h =
+      with-slip-fair b slip (unlessAnswer (eqb n 0) n b x) (λ l. unless-fair b slip l (eqb n 0) n x (eqb-false n 0) (λ e. h l (c (eqb-true n 0 e))))
 
   find-fair : (q : Query) → Fair b slip (find current q b slip)
   unfolding find
-  find-fair q = asking-fair q _ (λ l g. go l g (found (contents current b) q))
+  find-fair q = asking-fair (checkNumber current q b) _ (checks-good b (refusal q)) (λ l g. go l g (foundPlace (contents current b) q))
     where
-      go : length slip ≡ 16 → good current b ≡ true → (o : Option ℕ) → Fair b slip (findAnswer b (q .size .0) o)
-      go l g none = refuse-fair b slip l 5 (λ z. omega (arith, z))
-      go l g (some a) = done-fair b slip l b _ g
+      go : length slip ≡ 16 → good current b ≡ true → (p : Place) → Fair b slip (findAnswer b (q .size .0) p)
+      go l g Nowhere = refuse-fair b slip l 5 (λ z. omega (arith, z))
+      go l g (Here a run) = done-fair b slip l b _ g
 
   allocate-fair : (q : Query) → Fair b slip (allocate current q b slip)
   unfolding allocate commandOutcome
-  allocate-fair q = asking-fair q _ (λ l g. go l g (found (contents current b) q))
+  allocate-fair q = asking-fair (checkNumber current q b) _ (checks-good b (refusal q)) (λ l g. go l g (foundPlace (contents current b) q))
     where
       reserving : length slip ≡ 16 → (a : ℕ) (o : Outcome) → good current (o .block) ≡ true → Fair b slip (reserved b a (q .size .0) o)
       reserving l a o h = by (eqb (o .number) 0) refl
@@ -178,23 +176,21 @@ module _ (b slip : List ℕ) where
           by true e = done-fair b slip l (o .block) _ h
           by false e = refuse-fair b slip l (o .number) (eqb-false (o .number) 0 e)
 
-      go : length slip ≡ 16 → good current b ≡ true → (o : Option ℕ) → Fair b slip (allocateAnswer current b (q .size .0) o)
-      go l g none = refuse-fair b slip l 5 (λ z. omega (arith, z))
-      go l g (some a) =
-          let o : Outcome = changeRange current Taken (Fill (tag 0 0)) a (q .size .0) b in
-          let h : good current (o .block) ≡ true = rw g at (command-good b g (command Reserve a (q .size .0))) in
-          reserving l a o h
+      go : length slip ≡ 16 → good current b ≡ true → (p : Place) → Fair b slip (allocateAnswer current b (q .size .0) p)
+      go l g Nowhere = refuse-fair b slip l 5 (λ z. omega (arith, z))
+      go l g (Here a run) =
+          let o : Outcome = changeRange current Taken (Fill (tag 0 0)) (a .0) (q .size .0) b in
+          let h : good current (o .block) ≡ true = rw g at (command-good b g (command Reserve (a .0) (q .size .0))) in
+          reserving l (a .0) o h
 
   next-free-fair : (from node : ℕ) → Fair b slip (nextFree current from node b slip)
   unfolding nextFree
   next-free-fair from node =
-      with-slip-fair b slip _
-      (λ l. unless-fair b slip l (good current b) 1 _ (λ e z. omega (arith, z))
-      (λ g. unless-fair b slip l (nodeKnown node) 2 _ (λ e z. omega (arith, z)) (λ k. go l g (lowestFree (contents current b) from node))))
+      asking-fair (nextNumber current node b) _ (checks-good b (cond (nodeKnown node) 0 2)) (λ l g. go l g (nextPlace (contents current b) from node))
     where
-      go : length slip ≡ 16 → good current b ≡ true → (o : Option ℕ) → Fair b slip (nextFreeAnswer b (contents current b) o)
-      go l g none = refuse-fair b slip l 5 (λ z. omega (arith, z))
-      go l g (some a) = done-fair b slip l b _ g
+      go : length slip ≡ 16 → good current b ≡ true → (p : Place) → Fair b slip (nextFreeAnswer b p)
+      go l g Nowhere = refuse-fair b slip l 5 (λ z. omega (arith, z))
+      go l g (Here a run) = done-fair b slip l b _ g
 
 -- ---- every call
 

@@ -1,7 +1,7 @@
 -- No sorted list that says the same has fewer records than the shortest list. Assumes nothing.
 use Prim.Native.Nat.{ℕ, suc, _+_, _-_, _≤_, _<_}
 use mathlib.Core.Path.{_≡_, refl, ap, _∙_}
-use mathlib.Core.Bool.{Bool, true, _&&_}
+use mathlib.Core.Bool.{true}
 use mathlib.Core.List.{List, [], _∷_}
 use mathlib.Core.Logic.{_⊎_, inl, inr}
 use native.Mathlib.Omega.{arith}
@@ -12,14 +12,10 @@ use Rattle.address.proofs.Tests.{both, le-or-lt}
 use Rattle.regions.specs.declared.Region.{Region}
 use Rattle.regions.specs.declared.State.the-variants.{Absent, Present}
 use Rattle.regions.specs.Meaning.{Meaning, end, at, shortest}
+use Rattle.regions.specs.Lists.{sorted}
 use Rattle.regions.proofs.Push.{push-to}
 use Rattle.regions.proofs.Count.{push-by-one}
 use Rattle.regions.proofs.RoundTrip.{at-here, at-before, at-past, push-absent}
-
--- in rising order from c on, none overlapping; records may be empty, and may touch with equal tags
-unfoldable pub sorted : ℕ → List Region → Bool
-sorted c [] = true
-sorted c (r ∷ rs) = leb c (r .base .0) && sorted (end r) rs
 
 sorted-below : (ys : List Region) (c a : ℕ) → sorted c ys ≡ true → a < c → at ys a ≡ Absent
 unfolding sorted at

@@ -13,18 +13,12 @@ use Rattle.regions.specs.declared.Region.{Region}
 use Rattle.regions.specs.declared.State.{State}
 use Rattle.regions.specs.declared.State.the-variants.{Absent, Present}
 use Rattle.regions.specs.Meaning.{Meaning, end, at, shortest, top}
-use Rattle.regions.specs.Runs.{liesIn, inOne, runOf, runAt}
+use Rattle.regions.specs.Runs.{liesIn, inOne, OneTag, runOf, runAt}
 use Rattle.regions.proofs.Rises.{Rises, ended, next}
 use Rattle.regions.proofs.RoundTrip.{inside-yes, inside-past, rises-end, rises-below, at-here, at-before, at-past, at-shortest, canonical-shortest}
 use Rattle.regions.proofs.Trim.{rises-apart}
 
 -- ---- lying in one region
-
--- the size addresses from a are all present with one tag, which passes
-pub record OneTag (f : Meaning) (p : Tag → Bool) (size a : ℕ) : Type 0 where
-  pub tag : Tag
-  pub right : p tag ≡ true
-  pub all : (b : ℕ) → a ≤ b → b < a + size → f b ≡ Present tag
 
 or-true : (a : Bool) → a || true ≡ true
 or-true true = refl

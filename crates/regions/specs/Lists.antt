@@ -26,6 +26,11 @@ unfoldable pub rises : ℕ → State → ℕ → List Region → Bool
 rises c v n [] = leb c n
 rises c v n (r ∷ rs) = fits c v r && rises (end r) (Present (r .tag)) n rs
 
+-- in rising order from c on, none overlapping; records may be empty, and may touch with equal tags
+unfoldable pub sorted : ℕ → List Region → Bool
+sorted c [] = true
+sorted c (r ∷ rs) = leb c (r .base .0) && sorted (end r) rs
+
 -- document 01's legal tags: in memory flags 0 or 4 and a node of 0 to 63, in the taken table 0, 0
 unfoldable pub legalTag : Kind → Tag → Bool
 legalTag Memory t = (eqb (t .flags) 0 || eqb (t .flags) 4) && leb (t .node) 63

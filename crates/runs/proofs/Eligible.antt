@@ -18,18 +18,12 @@ use Rattle.regions.specs.Changes.{has}
 use Rattle.regions.proofs.Lying.{passes, in-none, in-run}
 use Rattle.regions.proofs.Rises.{Rises}
 use Rattle.runs.specs.declared.Query.{Query}
-use Rattle.runs.specs.Eligible.{asks, eligible}
+use Rattle.runs.specs.Eligible.{asks, eligible, Lies}
 use Rattle.runs.specs.Steps.{serves}
 use Rattle.runs.proofs.Stretches.{NoneIn}
 use Rattle.runs.proofs.Fits.{inWindow}
 
--- an address is eligible exactly when it is aligned, and lies in the window and in a run
-pub record Lies (q : Query) (runs : List Region) (a : ℕ) : Type 0 where
-  pub aligned : a % q .align .0 ≡ 0
-  pub start : q .start .0 ≤ a
-  pub end : a + q .size .0 ≤ q .end .0
-  pub run : inOne (asks q) (q .size .0) a runs ≡ true
-
+-- an address is eligible exactly when it lies so
 pub eligible-lies : (q : Query) (runs : List Region) (a : ℕ) → eligible q runs a ≡ true → Lies q runs a
 unfolding eligible
 eligible-lies q runs a e =

@@ -6,13 +6,8 @@ use mathlib.Core.Option.{Option, none, some}
 use mathlib.Core.Logic.{_⊎_, inl, inr}
 use native.Mathlib.Omega.{arith}
 use native.Mathlib.Nat.{not-suc-le-zero}
-use Rattle.address.proofs.Tests.{clash, le-or-lt}
-use Rattle.runs.specs.Eligible.{orElse, lowest, highest}
-
--- what is so of an answer to `which number below n passes`, where the others ruled out are those that lie beyond
-abbrev pub Gives : (ℕ → Bool) → (ℕ → ℕ → Type 0) → ℕ → Option ℕ → Type 0
-Gives p beyond n none = (b : ℕ) → b < n → p b ≡ false
-Gives p beyond n (some a) = (p a ≡ true) × ((a < n) × ((b : ℕ) → b < n → beyond b a → p b ≡ false))
+use Rattle.address.proofs.Tests.{le-or-lt}
+use Rattle.runs.specs.Eligible.{orElse, lowest, highest, Gives}
 
 module _ (p : ℕ → Bool) where
   -- below n and n itself
@@ -46,8 +41,3 @@ module _ (p : ℕ → Bool) where
           above : (b : ℕ) → b < suc n → (n ≤ b) ⊎ (b < n) → a < b → p b ≡ false
           above b l (inl i) m = let f : n ≡ b = omega arith in rw (← f) e
           above b l (inr i) m = g .1 .1 b i m
-
-  -- none is answered exactly when none passes
-  pub none-exactly : (beyond : ℕ → ℕ → Type 0) (n : ℕ) (o : Option ℕ) → Gives p beyond n o → ((b : ℕ) → b < n → p b ≡ false) → o ≡ none
-  none-exactly beyond n none g h = refl
-  none-exactly beyond n (some a) g h = absurd (clash (p a) (g .0) (h a (g .1 .0)))

@@ -18,7 +18,8 @@ use Rattle.regions.specs.Runs.{runOf}
 use Rattle.runs.specs.declared.Query.{Query}
 use Rattle.regions.specs.declared.Run.{Run}
 use Rattle.runs.specs.Eligible.{onNode}
-use Rattle.runs.specs.Steps.{Hit, hitIn, spotOf, cutLow, cutHigh, serves, fitLow, fitHigh}
+use Rattle.runs.specs.Places.{Hit}
+use Rattle.runs.specs.Steps.{hitIn, spotOf, cutLow, cutHigh, serves, fitLow, fitHigh}
 use Rattle.runs.proofs.Ways.{Way, Up, Down, fit}
 use Rattle.runs.proofs.Stretches.{Before, Finds}
 use Rattle.address.specs.declared.CheckedAddress.the-variants as checked

@@ -35,7 +35,8 @@ use Rattle.runs.specs.declared.Query.{Query}
 use Rattle.runs.specs.declared.walk.Bounds.{Bounds}
 use Rattle.runs.specs.declared.fit.Place.the-variants.{Here, Nowhere}
 use Rattle.runs.specs.Eligible.{asks, orElse}
-use Rattle.runs.specs.Steps.{Hit, hitIn, placeOf, spotOf, boundsOf, boundsLow, boundsHigh, serves, cutLow, cutHigh, fitLow, fitHigh, Searchable, lowestIn, highestIn}
+use Rattle.runs.specs.Places.{Hit, placeOf}
+use Rattle.runs.specs.Steps.{hitIn, spotOf, boundsOf, boundsLow, boundsHigh, serves, cutLow, cutHigh, fitLow, fitHigh, Searchable, lowestIn, highestIn}
 use Rattle.runs.proofs.Ways.{Way, Up, Down, gaps, walk}
 use Rattle.runs.proofs.Fall.{backs, backs-falling}
 use Rattle.runs.proofs.Walks.{walk-lowest, walk-highest}

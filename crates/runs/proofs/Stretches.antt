@@ -6,11 +6,11 @@ use mathlib.Core.Option.{Option, none, some}
 use mathlib.Core.Logic.{_⊎_, inl, inr}
 use native.Mathlib.Omega.{arith}
 use Rattle.address.proofs.Tests.{clash, le-or-lt}
-use Rattle.runs.specs.Eligible.{orElse, lowest, highest}
+use Rattle.runs.specs.Eligible.{orElse, lowest, highest, Gives}
 use Rattle.regions.specs.declared.Run.{Run}
-use Rattle.runs.specs.Steps.{Hit, hitOf}
+use Rattle.runs.specs.Places.{Hit, hitOf}
 use Rattle.runs.proofs.Ways.{Way, Up, Down, extreme}
-use Rattle.runs.proofs.Extremes.{Gives, lowest-gives, highest-gives}
+use Rattle.runs.proofs.Extremes.{lowest-gives, highest-gives}
 
 -- p holds at no address from c to below d
 abbrev pub NoneIn : (ℕ → Bool) → ℕ → ℕ → Type 0

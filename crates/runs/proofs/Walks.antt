@@ -23,7 +23,8 @@ use Rattle.regions.proofs.Free.{pass-untaken, runs-at, free-memory}
 use Rattle.regions.proofs.Lying.{passes, Longest, run-is}
 use Rattle.runs.specs.declared.Query.{Query}
 use Rattle.runs.specs.Eligible.{asks, eligible}
-use Rattle.runs.specs.Steps.{Hit, serves, fitLow, fitHigh, lowestIn, highestIn}
+use Rattle.runs.specs.Places.{Hit}
+use Rattle.runs.specs.Steps.{serves, fitLow, fitHigh, lowestIn, highestIn}
 use Rattle.runs.proofs.Ways.{Way, Up, Down, fit, gaps, walk, falling}
 use Rattle.runs.proofs.Stretches.{NoneIn, Finds, join-up, join-down, finds-extreme}
 use Rattle.runs.proofs.Fits.{fit-finds, fit-none}

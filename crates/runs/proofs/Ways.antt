@@ -8,7 +8,8 @@ use Rattle.regions.specs.declared.Region.{Region}
 use Rattle.regions.specs.Meaning.{end}
 use Rattle.runs.specs.declared.Query.{Query}
 use Rattle.runs.specs.Eligible.{asks, orElse, lowest, highest}
-use Rattle.runs.specs.Steps.{Hit, serves, fitLow, fitHigh}
+use Rattle.runs.specs.Places.{Hit}
+use Rattle.runs.specs.Steps.{serves, fitLow, fitHigh}
 
 -- which way a walk goes
 pub data Way : Type 0 where

@@ -22,9 +22,10 @@ use Rattle.regions.proofs.Free.{runs-at, free-memory}
 use Rattle.regions.proofs.Lying.{one-in, Parted, Agree, run-same, one-same}
 use Rattle.records.specs.Steps.{endingBy}
 use Rattle.runs.specs.declared.Query.{Query}
-use Rattle.runs.specs.Eligible.{asks, eligible, lowest}
-use Rattle.runs.specs.Steps.{hitOf, lowestIn}
-use Rattle.runs.proofs.Extremes.{Gives, lowest-gives}
+use Rattle.runs.specs.Eligible.{asks, eligible, lowest, Gives}
+use Rattle.runs.specs.Places.{hitOf}
+use Rattle.runs.specs.Steps.{lowestIn}
+use Rattle.runs.proofs.Extremes.{lowest-gives}
 use Rattle.runs.proofs.Stretches.{lowest-agree}
 use Rattle.runs.proofs.Eligible.{eligible-lies, lies-eligible}
 

@@ -1,6 +1,7 @@
 -- Which addresses a search over free runs may give; the lowest and the highest number. Assumes nothing.
-use Prim.Native.Nat.{ℕ, zero, suc, _+_, _%_}
-use mathlib.Core.Bool.{Bool, cond, _&&_, _||_}
+use Prim.Native.Nat.{ℕ, zero, suc, _+_, _%_, _≤_, _<_}
+use mathlib.Core.Path.{_≡_}
+use mathlib.Core.Bool.{Bool, true, false, cond, _&&_, _||_}
 use mathlib.Core.List.{List}
 use mathlib.Core.Option.{Option, none, some}
 use lib.Dec.{leb, eqb}
@@ -28,6 +29,11 @@ unfoldable pub highest : (ℕ → Bool) → ℕ → Option ℕ
 highest p zero = none
 highest p (suc n) = cond (p n) (some n) (highest p n)
 
+-- what is so of an answer to `which number below n passes`, where the others ruled out are those that lie beyond; only proofs cite it
+abbrev pub Gives : (ℕ → Bool) → (ℕ → ℕ → Type 0) → ℕ → Option ℕ → Type 0
+Gives p beyond n none = (b : ℕ) → b < n → p b ≡ false
+Gives p beyond n (some a) = (p a ≡ true) × ((a < n) × ((b : ℕ) → b < n → beyond b a → p b ≡ false))
+
 -- ---- eligible
 
 -- node n is the one asked for; 0xFFFFFFFF means any
@@ -45,3 +51,10 @@ asks q t = onNode (q .node) t
 unfoldable pub eligible : Query → List Region → ℕ → Bool
 eligible q runs a =
     eqb (a % q .align .0) 0 && ((leb (q .start .0) a && leb (a + q .size .0) (q .end .0)) && inOne (asks q) (q .size .0) a runs)
+
+-- the same, part by part; only proofs cite it
+pub record Lies (q : Query) (runs : List Region) (a : ℕ) : Type 0 where
+  pub aligned : a % q .align .0 ≡ 0
+  pub start : q .start .0 ≤ a
+  pub end : a + q .size .0 ≤ q .end .0
+  pub run : inOne (asks q) (q .size .0) a runs ≡ true

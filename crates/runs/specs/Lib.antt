@@ -1,2 +1,3 @@
 pub mod Eligible
+pub mod Places
 pub mod Steps

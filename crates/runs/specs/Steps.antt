@@ -11,7 +11,6 @@ use Rattle.address.specs.declared.CheckedAddress.{CheckedAddress}
 use Rattle.address.specs.declared.CheckedAddress.the-variants.{At, Outside}
 use Rattle.regions.specs.declared.Tag.{Tag}
 use Rattle.regions.specs.declared.Region.{Region}
-use Rattle.regions.specs.declared.Run.{Run}
 use Rattle.regions.specs.declared.Kind.the-variants.{Memory, Taken}
 use Rattle.regions.specs.Meaning.{end, top}
 use Rattle.regions.specs.Lists.{goodList}
@@ -20,25 +19,9 @@ use Rattle.regions.specs.Free.{freeRuns}
 use Rattle.regions.specs.Runs.{runOf, runAt}
 use Rattle.regions.specs.Bytes.{readRegion, readRegions}
 use Rattle.runs.specs.declared.Query.{Query}
-use Rattle.runs.specs.declared.fit.Place.{Place}
-use Rattle.runs.specs.declared.fit.Place.the-variants.{Here, Nowhere}
 use Rattle.runs.specs.declared.walk.Bounds.{Bounds}
 use Rattle.runs.specs.Eligible.{lowest, highest, eligible}
-
--- ---- answers as the code gives them
-
--- an address that is found, with its free run
-pub record Hit : Type 0 where
-  pub at : ℕ
-  pub run : Run
-
-abbrev pub hitOf : (ℕ → Run) → Option ℕ → Option Hit
-hitOf w none = none
-hitOf w (some a) = some (record { at = a; run = w a })
-
-abbrev pub placeOf : Option Hit → Place
-placeOf none = Nowhere
-placeOf (some h) = Here (record { 0 = h .at }) (h .run)
+use Rattle.runs.specs.Places.{Hit, hitOf}
 
 -- ---- one stretch
 

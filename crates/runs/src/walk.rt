@@ -20,7 +20,8 @@ ghost use Rattle.regions.specs.Lists.{goodList};
 ghost use Rattle.regions.specs.Meaning.{end as endOf};
 ghost use Rattle.regions.specs.Bytes.{readRegions};
 ghost use Rattle.records.specs.Steps.{Table, endingBy};
-ghost use Rattle.runs.specs.Steps.{placeOf, boundsLow, boundsHigh, Searchable, lowestIn, highestIn};
+ghost use Rattle.runs.specs.Places.{placeOf};
+ghost use Rattle.runs.specs.Steps.{boundsLow, boundsHigh, Searchable, lowestIn, highestIn};
 
 // The first address past a record of a good table.
 fn past(r: Region) -> Address

@@ -1,14 +1,18 @@
 -- The answers of allocate, one by one. Assumes nothing.
-use Prim.Native.Nat.{ℕ, _+_}
-use mathlib.Core.Path.{_≡_, refl, sym, ap, ap₂, _∙_}
+use Prim.Native.Nat.{ℕ, _+_, _≤_}
+use mathlib.Core.Path.{_≡_, sym, ap, ap₂, _∙_}
 use mathlib.Core.Bool.{Bool, true, false, cond}
 use mathlib.Core.List.{List}
-use mathlib.Core.Option.{Option, none, some}
 use native.Mathlib.Omega.{arith}
 use lib.Dec.{leb}
 use lib.ListN.{length, replicate}
 use borrow.Author.Tests.{eq-eqb, ne-eqb}
+use Rattle.address.specs.Numbers.{address}
 use Rattle.address.specs.declared.Address.{Address}
+use Rattle.address.specs.declared.CheckedAddress.{CheckedAddress}
+use Rattle.address.specs.declared.CheckedAddress.the-variants.{At, Outside}
+use Rattle.address.proofs.Checked.{address-at, address-outside}
+use Rattle.regions.specs.Meaning.{top, top-is}
 use Rattle.regions.specs.declared.Region.{Region}
 use Rattle.regions.specs.declared.Kind.{Kind}
 use Rattle.regions.specs.declared.Kind.the-variants.{Taken}
@@ -16,18 +20,14 @@ use Rattle.regions.specs.declared.Change.the-variants.{Fill}
 use Rattle.block.specs.declared.Layout.{Layout}
 use Rattle.block.specs.Block.{current, capacity, withList, blockBytes, contents}
 use Rattle.tables.specs.Commands.{Outcome, outcome, store, tag, changeRange}
-use Rattle.regions.specs.Runs.{runAt}
 use Rattle.runs.specs.declared.Query.{Query}
-use Rattle.search.specs.declared.find.Asked.{Asked}
-use Rattle.search.specs.declared.find.Asked.the-variants.{Refused, Fine}
 use Rattle.regions.specs.declared.Run.{Run}
 use Rattle.runs.specs.declared.fit.Place.{Place}
 use Rattle.runs.specs.declared.fit.Place.the-variants.{Here, Nowhere}
-use Rattle.search.specs.Search.{runsOf, found}
-use Rattle.search.specs.Answers.{Answer, answer, refuse, slipOf, reserved, allocate, allocateAnswer}
-use Rattle.runs.specs.Steps.{hitOf, placeOf}
-use Rattle.search.specs.Steps.{foundHit, checked}
-use Rattle.search.proofs.Answering.{refused, fine}
+use Rattle.search.specs.Search.{foundPlace}
+use Rattle.search.specs.Answers.{Answer, answer, refuse, slipOf, checkNumber, reserved, allocate, allocateAnswer}
+use Rattle.search.specs.Steps.{Reservable}
+use Rattle.search.proofs.Answering.{no-slip, refused, fine, fine-ready, found-vacant}
 
 -- a list that does not fit leaves the block
 store-leaves : (L : Layout) (k : Kind) (xs : List Region) (b e : List ℕ) (n : ℕ) → outcome n e ≡ store L k xs b → (n ≡ 0 → ⊥) → e ≡ b
@@ -48,41 +48,44 @@ module _ (b : List ℕ) (a : Address) (s : ℕ) (n : ℕ) (e : List ℕ) (w : ou
       let h : reserved b (a .0) s (outcome n e) ≡ refuse n b = rw (ne-eqb n 0 d) in
       ap₂ (λ (x y : List ℕ). answer n x y) k p ∙ sym h ∙ ap (reserved b (a .0) s) w
 
-  pub taken-done : (y : List ℕ) → y ≡ slipOf (a .0) (a .0 + s) → n ≡ 0 → answer 0 e y ≡ reserved b (a .0) s (changeRange current Taken (Fill (tag 0 0)) (a .0) s b)
-  taken-done y p d =
-      let h : reserved b (a .0) s (outcome n e) ≡ answer 0 e (slipOf (a .0) (a .0 + s)) = rw (eq-eqb n 0 d) in
-      ap (answer 0 e) p ∙ sym h ∙ ap (reserved b (a .0) s) w
+  pub taken-done : (x : CheckedAddress) → x ≡ address (a .0 + s) → (d : Address) → x ≡ At d → (y : List ℕ) → y ≡ slipOf (a .0) (d .0) → n ≡ 0
+      → answer 0 e y ≡ reserved b (a .0) s (changeRange current Taken (Fill (tag 0 0)) (a .0) s b)
+  taken-done x i d j y p z =
+      let h : reserved b (a .0) s (outcome n e) ≡ answer 0 e (slipOf (a .0) (a .0 + s)) = rw (eq-eqb n 0 z) in
+      ap (answer 0 e) (p ∙ ap (slipOf (a .0)) (address-at (a .0 + s) x d i j .0)) ∙ sym h ∙ ap (reserved b (a .0) s) w
+
+-- what ends at the top or below has an end that is an address
+pub taken-ends : (a s : ℕ) → a + s ≤ top → (x : CheckedAddress) → x ≡ address (a + s) → x ≡ Outside → (t v : Answer) → t ≡ v
+taken-ends a s h x i o t v = absurd (omega (arith, address-outside (a + s) x i o, top-is))
 
 -- ---- the checks and the search before it
 
+pub found-reservable : (b : List ℕ) (q : Query) (n : ℕ) → n ≡ checkNumber current q b → n ≡ 0 → (r : Place) → r ≡ foundPlace (contents current b) q
+    → (a : Address) (v : Run) → r ≡ Here a v → (z : List ℕ) → z ≡ replicate 16 0 → Reservable b (a .0) (q .size .0) z
+found-reservable b q n is f r o a v g z e =
+    let p = fine-ready b q n is f in
+    let w = found-vacant b q p r o a v g in
+    record { good = p .good; some = p .size; end = w .0; vacant = w .1; zero = e }
+
 module _ (b s : List ℕ) (q : Query) where
+  abbrev inner : Answer
+  inner = allocateAnswer current b (q .size .0) (foundPlace (contents current b) q)
+
   pub allocate-no-slip : (length s ≡ 16 → ⊥) → answer 8 b s ≡ allocate current q b s
   unfolding allocate
-  allocate-no-slip h = rw (ne-eqb (length s) 16 h)
+  allocate-no-slip h = no-slip (checkNumber current q b) b s inner h
 
-  module _ (l : length s ≡ 16) (c : Asked) (is : c ≡ checked q b) where
-    abbrev inner : Answer
-    inner = allocateAnswer current b (q .size .0) (found (contents current b) q)
-
-    pub allocate-refused : (z : List ℕ) → z ≡ replicate 16 0 → (n : ℕ) → c ≡ Refused n → answer n b z ≡ allocate current q b s
+  module _ (l : length s ≡ 16) (n : ℕ) (is : n ≡ checkNumber current q b) where
+    pub allocate-refused : (z : List ℕ) → z ≡ replicate 16 0 → (n ≡ 0 → ⊥) → answer n b z ≡ allocate current q b s
     unfolding allocate
-    allocate-refused z e n f = ap (answer n b) e ∙ refused b s q l c is inner n f
+    allocate-refused z e f = ap (answer n b) e ∙ refused (checkNumber current q b) b s inner l n is f
 
-    module _ (f : c ≡ Fine) (r : Place) (o : r ≡ placeOf (foundHit (contents current b) q)) where
+    module _ (f : n ≡ 0) (r : Place) (o : r ≡ foundPlace (contents current b) q) where
       pub allocate-none : (z : List ℕ) → z ≡ replicate 16 0 → r ≡ Nowhere → answer 5 b z ≡ allocate current q b s
-      unfolding allocate foundHit
-      allocate-none z e g = ap (answer 5 b) e ∙ go (found (contents current b) q) (sym g ∙ o) ∙ fine b s q l c is inner f
-        where
-          go : (u : Option ℕ) → Nowhere ≡ placeOf (hitOf (runAt (runsOf (contents current b))) u) → refuse 5 b ≡ allocateAnswer current b (q .size .0) u
-          go none h = refl
-          go (some x) h = let y : _≡_ {A = ℕ} 0 1 = cc in absurd (omega arith)
+      unfolding allocate
+      allocate-none z e g = ap (answer 5 b) e ∙ ap (allocateAnswer current b (q .size .0)) (sym g ∙ o) ∙ fine (checkNumber current q b) b s inner l n is f
 
       pub allocate-some : (a : Address) (v : Run) → r ≡ Here a v → (t : Answer)
           → t ≡ reserved b (a .0) (q .size .0) (changeRange current Taken (Fill (tag 0 0)) (a .0) (q .size .0) b) → t ≡ allocate current q b s
-      unfolding allocate foundHit
-      allocate-some a v g t w = w ∙ go (found (contents current b) q) (sym g ∙ o) ∙ fine b s q l c is inner f
-        where
-          go : (u : Option ℕ) → Here a v ≡ placeOf (hitOf (runAt (runsOf (contents current b))) u)
-              → reserved b (a .0) (q .size .0) (changeRange current Taken (Fill (tag 0 0)) (a .0) (q .size .0) b) ≡ allocateAnswer current b (q .size .0) u
-          go none h = let y : _≡_ {A = ℕ} 0 1 = cc in absurd (omega arith)
-          go (some x) h = let y : a ≡ record { 0 = x } = cc in rw y
+      unfolding allocate
+      allocate-some a v g t w = w ∙ ap (allocateAnswer current b (q .size .0)) (sym g ∙ o) ∙ fine (checkNumber current q b) b s inner l n is f

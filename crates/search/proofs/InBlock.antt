@@ -6,8 +6,7 @@ use mathlib.Core.List.{List}
 use native.Mathlib.Omega.{arith}
 use native.Mathlib.Nat.{mod-one}
 use lib.Dec.{leb}
-use lib.ListN.{length, take, drop, length-drop}
-use lib.Seq.{length-take-le}
+use lib.ListN.{length, take, drop}
 use borrow.Author.Tests.{eq-eqb, ne-eqb, le-leb}
 use Rattle.address.specs.declared.Address.{Address}
 use Rattle.address.specs.Numbers.{powerBelow}
@@ -25,9 +24,10 @@ use Rattle.runs.specs.declared.Query.{Query}
 use Rattle.search.specs.declared.seek.Parts.{Parts}
 use Rattle.runs.specs.declared.fit.Place.{Place}
 use Rattle.runs.specs.Eligible.{onNode, eligible}
-use Rattle.search.specs.Search.{boundedEnd, window, windowEnd, runsOf, found, freeFrom, lowestFree}
-use Rattle.runs.specs.Steps.{placeOf, Searchable, lowestIn, highestIn}
-use Rattle.search.specs.Steps.{Ready, partsOf, lowestOf, highestOf, foundHit, nextQuery, nextHit}
+use Rattle.runs.specs.Places.{placeOf}
+use Rattle.runs.specs.Steps.{Searchable, lowestIn, highestIn}
+use Rattle.search.specs.Search.{boundedEnd, window, windowEnd, runsOf, found, foundPlace, freeFrom, lowestFree, nextPlace}
+use Rattle.search.specs.Steps.{Ready, partsOf, lowestOf, highestOf, nextQuery}
 use Rattle.runs.proofs.Stretches.{lowest-agree}
 
 -- ---- the window
@@ -102,13 +102,13 @@ module _ (b : List ℕ) (q : Query) (t : Parts) (is : t ≡ partsOf b) where
 
   pub lowest-is : (f : Place)
       → f ≡ placeOf (lowestIn (readRegions (t .memory) (take (t .middle - 80) (drop 80 b))) (readRegions (t .taken) (take (t .end - t .middle) (drop (t .middle) b))) q)
-      → f ≡ placeOf (lowestOf (contents current b) q)
+      → f ≡ lowestOf (contents current b) q
   unfolding contents capacity offset
   lowest-is f e = rw is at e
 
   pub highest-is : (f : Place)
       → f ≡ placeOf (highestIn (readRegions (t .memory) (take (t .middle - 80) (drop 80 b))) (readRegions (t .taken) (take (t .end - t .middle) (drop (t .middle) b))) q)
-      → f ≡ placeOf (highestOf (contents current b) q)
+      → f ≡ highestOf (contents current b) q
   unfolding contents capacity offset
   highest-is f e = rw is at e
 
@@ -122,12 +122,12 @@ module _ (b : List ℕ) (q : Query) (h : Header) (r : h ≡ readHeader b) (w : Q
   unfolding contents
   limit-is = rw r at e
 
-  pub find-low : h .settings .direction ≡ 1 → (f : Place) → f ≡ placeOf (lowestOf (contents current b) w) → f ≡ placeOf (foundHit (contents current b) q)
-  unfolding found foundHit contents lowestIn
+  pub find-low : h .settings .direction ≡ 1 → (f : Place) → f ≡ lowestOf (contents current b) w → f ≡ foundPlace (contents current b) q
+  unfolding found foundPlace contents lowestIn
   find-low d f i = let k : readHeader b .settings .direction ≡ 1 = rw r at d in rw (eq-eqb (readHeader b .settings .direction) 1 k, ← limit-is) i
 
-  pub find-high : (h .settings .direction ≡ 1 → ⊥) → (f : Place) → f ≡ placeOf (highestOf (contents current b) w) → f ≡ placeOf (foundHit (contents current b) q)
-  unfolding found foundHit contents highestIn
+  pub find-high : (h .settings .direction ≡ 1 → ⊥) → (f : Place) → f ≡ highestOf (contents current b) w → f ≡ foundPlace (contents current b) q
+  unfolding found foundPlace contents highestIn
   find-high d f i = let k : readHeader b .settings .direction ≡ 1 → ⊥ = rw r at d in rw (ne-eqb (readHeader b .settings .direction) 1 k, ← limit-is) i
 
 -- ---- next free
@@ -147,9 +147,8 @@ next-eligible p node runs a h =
     go true = refl
     go false = refl
 
-pub next-found : (s : Contents) (p : Address) (node : ℕ) (q : Query) → q ≡ nextQuery p node → (f : Place) → f ≡ placeOf (lowestOf s q)
-    → f ≡ placeOf (nextHit s (p .0) node)
-unfolding lowestIn nextHit lowestFree
+pub next-found : (s : Contents) (p : Address) (node : ℕ) (q : Query) → q ≡ nextQuery p node → (f : Place) → f ≡ lowestOf s q → f ≡ nextPlace s (p .0) node
+unfolding lowestIn nextPlace lowestFree
 next-found s p node q e f i =
     let k = lowest-agree (eligible (nextQuery p node) (runsOf s)) (freeFrom (p .0) node (runsOf s)) top (next-eligible p node (runsOf s)) in
     rw (e, k) at i

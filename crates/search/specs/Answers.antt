@@ -2,19 +2,19 @@
 use Prim.Native.Nat.{ℕ, _+_}
 use mathlib.Core.Bool.{Bool, cond, _||_}
 use mathlib.Core.List.{List, _++_}
-use mathlib.Core.Option.{Option, none, some}
 use lib.Dec.{leb, eqb}
 use lib.ListN.{length, replicate}
 use Rattle.address.specs.Numbers.{powerOfTwo}
 use Rattle.regions.specs.declared.Kind.the-variants.{Taken}
 use Rattle.regions.specs.declared.Change.the-variants.{Fill}
 use Rattle.regions.specs.Bytes.{bytes}
-use Rattle.regions.specs.Runs.{runAt}
 use Rattle.block.specs.declared.Layout.{Layout}
-use Rattle.block.specs.Block.{Contents, contents, good}
+use Rattle.block.specs.Block.{contents, good}
 use Rattle.tables.specs.Commands.{Outcome, tag, changeRange}
 use Rattle.runs.specs.declared.Query.{Query}
-use Rattle.search.specs.Search.{found, lowestFree, runsOf}
+use Rattle.runs.specs.declared.fit.Place.{Place}
+use Rattle.runs.specs.declared.fit.Place.the-variants.{Here, Nowhere}
+use Rattle.search.specs.Search.{foundPlace, nextPlace}
 
 -- the number, and every byte of the block and of the answer slip after the call
 pub record Answer : Type 0 where
@@ -52,34 +52,37 @@ refusal q = cond (nodeKnown (q .node)) (cond (powerOfTwo (q .align .0)) (cond (e
 abbrev pub checkNumber : Layout → Query → List ℕ → ℕ
 checkNumber L q b = cond (good L b) (refusal q) 1
 
-abbrev pub asking : Layout → Query → List ℕ → List ℕ → Answer → Answer
-asking L q b slip a = withSlip b slip (unless (eqb (checkNumber L q b) 0) (checkNumber L q b) b a)
+-- the number of next free's checks
+abbrev pub nextNumber : Layout → ℕ → List ℕ → ℕ
+nextNumber L node b = cond (good L b) (cond (nodeKnown node) 0 2) 1
+
+-- the answer a, once the slip and the checks, whose number is n, have passed
+abbrev pub asking : ℕ → List ℕ → List ℕ → Answer → Answer
+asking n b slip a = withSlip b slip (unless (eqb n 0) n b a)
 
 -- find's address and the end of its range; the block stays
-abbrev pub findAnswer : List ℕ → ℕ → Option ℕ → Answer
-findAnswer b size none = refuse 5 b
-findAnswer b size (some a) = answer 0 b (slipOf a (a + size))
+abbrev pub findAnswer : List ℕ → ℕ → Place → Answer
+findAnswer b size Nowhere = refuse 5 b
+findAnswer b size (Here a run) = answer 0 b (slipOf (a .0) (a .0 + size))
 
 unfoldable pub find : Layout → Query → List ℕ → List ℕ → Answer
-find L q b slip = asking L q b slip (findAnswer b (q .size .0) (found (contents L b) q))
+find L q b slip = asking (checkNumber L q b) b slip (findAnswer b (q .size .0) (foundPlace (contents L b) q))
 
 -- what was reserved, or table full
 abbrev pub reserved : List ℕ → ℕ → ℕ → Outcome → Answer
 reserved b a size o = cond (eqb (o .number) 0) (answer 0 (o .block) (slipOf a (a + size))) (refuse (o .number) b)
 
-abbrev pub allocateAnswer : Layout → List ℕ → ℕ → Option ℕ → Answer
-allocateAnswer L b size none = refuse 5 b
-allocateAnswer L b size (some a) = reserved b a size (changeRange L Taken (Fill (tag 0 0)) a size b)
+abbrev pub allocateAnswer : Layout → List ℕ → ℕ → Place → Answer
+allocateAnswer L b size Nowhere = refuse 5 b
+allocateAnswer L b size (Here a run) = reserved b (a .0) size (changeRange L Taken (Fill (tag 0 0)) (a .0) size b)
 
 unfoldable pub allocate : Layout → Query → List ℕ → List ℕ → Answer
-allocate L q b slip = asking L q b slip (allocateAnswer L b (q .size .0) (found (contents L b) q))
+allocate L q b slip = asking (checkNumber L q b) b slip (allocateAnswer L b (q .size .0) (foundPlace (contents L b) q))
 
 -- next free's address and the end of its run
-abbrev pub nextFreeAnswer : List ℕ → Contents → Option ℕ → Answer
-nextFreeAnswer b s none = refuse 5 b
-nextFreeAnswer b s (some a) = answer 0 b (slipOf a (runAt (runsOf s) a .end .0))
+abbrev pub nextFreeAnswer : List ℕ → Place → Answer
+nextFreeAnswer b Nowhere = refuse 5 b
+nextFreeAnswer b (Here a run) = answer 0 b (slipOf (a .0) (run .end .0))
 
 unfoldable pub nextFree : Layout → ℕ → ℕ → List ℕ → List ℕ → Answer
-nextFree L p node b slip =
-    withSlip b slip
-    (unless (good L b) 1 b (unless (nodeKnown node) 2 b (nextFreeAnswer b (contents L b) (lowestFree (contents L b) p node))))
+nextFree L p node b slip = asking (nextNumber L node b) b slip (nextFreeAnswer b (nextPlace (contents L b) p node))

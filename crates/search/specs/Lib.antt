@@ -1,3 +1,4 @@
 pub mod Search
 pub mod Answers
+pub mod DemandTwo
 pub mod Steps

@@ -7,10 +7,12 @@ use lib.Dec.{leb, eqb}
 use Rattle.regions.specs.declared.Region.{Region}
 use Rattle.regions.specs.Meaning.{top}
 use Rattle.regions.specs.Free.{freeRuns}
-use Rattle.regions.specs.Runs.{inOne}
+use Rattle.regions.specs.Runs.{inOne, runAt}
 use Rattle.block.specs.Block.{Contents}
 use Rattle.runs.specs.declared.Query.{Query}
-use Rattle.runs.specs.Eligible.{lowest, highest, asked, onNode, eligible}
+use Rattle.runs.specs.declared.fit.Place.{Place}
+use Rattle.runs.specs.Eligible.{lowest, highest, onNode, eligible}
+use Rattle.runs.specs.Places.{hitOf, placeOf}
 
 -- ---- find
 
@@ -43,6 +45,10 @@ unfoldable pub found : Contents → Query → Option ℕ
 found s q =
     cond (eqb (s .settings .direction) 1) (lowest (eligible (window (s .settings .limit .0) q) (runsOf s)) top) (highest (eligible (window (s .settings .limit .0) q) (runsOf s)) top)
 
+-- the same with the free run that it lies in
+unfoldable pub foundPlace : Contents → Query → Place
+foundPlace s q = placeOf (hitOf (runAt (runsOf s)) (found s q))
+
 -- ---- next free
 
 -- a at or above p, in a free run of the node asked for
@@ -51,3 +57,6 @@ freeFrom p node runs a = leb p a && inOne (onNode node) 1 a runs
 
 unfoldable pub lowestFree : Contents → ℕ → ℕ → Option ℕ
 lowestFree s p node = lowest (freeFrom p node (runsOf s)) top
+
+unfoldable pub nextPlace : Contents → ℕ → ℕ → Place
+nextPlace s p node = placeOf (hitOf (runAt (runsOf s)) (lowestFree s p node))

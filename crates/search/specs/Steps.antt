@@ -1,26 +1,20 @@
 -- What the steps of the search answer, and what they ask for. Only inner contracts cite this module. Assumes nothing.
-use Prim.Native.Nat.{ℕ, _-_, _<_}
+use Prim.Native.Nat.{ℕ, _+_, _≤_, _<_}
 use mathlib.Core.Path.{_≡_}
-use mathlib.Core.Bool.{true, cond}
+use mathlib.Core.Bool.{true}
 use mathlib.Core.List.{List}
-use mathlib.Core.Option.{Option}
-use lib.Dec.{eqb}
+use lib.ListN.{replicate}
 use Rattle.address.specs.Numbers.{powerOfTwo}
 use Rattle.address.specs.declared.Address.{Address}
 use Rattle.regions.specs.declared.Kind.the-variants.{Taken}
-use Rattle.regions.specs.Meaning.{end}
-use Rattle.regions.specs.Changes.{has}
-use Rattle.regions.specs.Runs.{runAt}
-use Rattle.block.specs.Block.{current, offset, blockLength, Contents, readHeader, good}
+use Rattle.regions.specs.Meaning.{top}
+use Rattle.block.specs.Block.{current, offset, blockLength, Contents, readHeader, contents, good}
+use Rattle.change.specs.Steps.{Vacant}
 use Rattle.runs.specs.declared.Query.{Query}
+use Rattle.runs.specs.declared.fit.Place.{Place}
+use Rattle.runs.specs.Places.{placeOf}
+use Rattle.runs.specs.Steps.{lowestIn, highestIn}
 use Rattle.search.specs.declared.seek.Parts.{Parts}
-use Rattle.search.specs.declared.find.Asked.{Asked}
-use Rattle.search.specs.declared.find.Asked.the-variants.{Refused, Fine}
-use Rattle.search.specs.Search.{runsOf, found, lowestFree}
-use Rattle.search.specs.Answers.{checkNumber}
-use Rattle.runs.specs.Steps.{Hit, hitOf, lowestIn, highestIn}
-
--- ---- a block
 
 -- a good block, and something that can be looked for
 pub record Ready (b : List ℕ) (q : Query) : Type 0 where
@@ -32,29 +26,21 @@ pub record Ready (b : List ℕ) (q : Query) : Type 0 where
 abbrev pub partsOf : List ℕ → Parts
 partsOf b = record { middle = offset current Taken; end = blockLength current; memory = readHeader b .memory .count; taken = readHeader b .taken .count }
 
-abbrev pub lowestOf : Contents → Query → Option Hit
-lowestOf s q = lowestIn (s .memory) (s .taken) q
+-- what the walks find in the tables
+abbrev pub lowestOf : Contents → Query → Place
+lowestOf s q = placeOf (lowestIn (s .memory) (s .taken) q)
 
-abbrev pub highestOf : Contents → Query → Option Hit
-highestOf s q = highestIn (s .memory) (s .taken) q
-
--- what find finds
-unfoldable pub foundHit : Contents → Query → Option Hit
-foundHit s q = hitOf (runAt (runsOf s)) (found s q)
+abbrev pub highestOf : Contents → Query → Place
+highestOf s q = placeOf (highestIn (s .memory) (s .taken) q)
 
 -- what next free asks: one address from p on
 abbrev pub nextQuery : Address → ℕ → Query
 nextQuery p node = record { size = record { 0 = 1 }; align = record { 0 = 1 }; start = p; end = record { 0 = 18446744073709551615 }; node = node }
 
--- what next free finds
-unfoldable pub nextHit : Contents → ℕ → ℕ → Option Hit
-nextHit s p node = hitOf (runAt (runsOf s)) (lowestFree s p node)
-
--- ---- the checks
-
--- what a check with this number answers
-abbrev pub askedOf : ℕ → Asked
-askedOf n = cond (eqb n 0) Fine (Refused n)
-
-unfoldable pub checked : Query → List ℕ → Asked
-checked q b = askedOf (checkNumber current q b)
+-- what allocate reserves: some addresses of a good block, none of them taken; the slip is still all zero
+pub record Reservable (b : List ℕ) (a size : ℕ) (slip : List ℕ) : Type 0 where
+  pub good : good current b ≡ true
+  pub some : 0 < size
+  pub end : a + size ≤ top
+  pub vacant : Vacant a (a + size) (contents current b .taken)
+  pub zero : slip ≡ replicate 16 0

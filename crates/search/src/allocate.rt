@@ -1,10 +1,10 @@
 // Allocate: looks for an address and goes on only when there is one; then it reserves the size found there.
-use crate::find::Asked;
 use crate::find::check;
 use crate::find::clear_slip;
 use crate::find::put_slip;
 use crate::seek::find_in;
 use address::Address;
+use address::CheckedAddress;
 use address::Size;
 use regions::Kind;
 use regions::Tag;
@@ -12,28 +12,28 @@ use runs::Query;
 use runs::fit::Place;
 use tables::range::fill_range;
 ghost use mathlib.Core.Path.{_≡_};
-ghost use mathlib.Core.Bool.{true};
-ghost use Prim.Native.Nat.{_+_, _<_, _≤_};
-ghost use lib.ListN.{replicate};
 ghost use Rattle.regions.specs.declared.Kind.the-variants.{Taken};
 ghost use Rattle.regions.specs.declared.Change.the-variants.{Fill};
-ghost use Rattle.block.specs.Block.{current, contents, good};
-ghost use Rattle.regions.specs.Meaning.{top};
-ghost use Rattle.change.specs.Steps.{Vacant};
+ghost use Rattle.block.specs.Block.{current};
 ghost use Rattle.tables.specs.Commands.{tag, changeRange};
 ghost use Rattle.search.specs.Answers.{answer, reserved, allocate as allocateSpec};
+ghost use Rattle.search.specs.Steps.{Reservable};
 
-// Reserves `size` addresses from `a` on, none of which is taken in a good block, and writes the slip, which is all zero.
+// Reserves the `size` addresses from `a` on, and writes them to the slip.
 fn take_found(block: &mut [u8], a: Address, size: Size, slip: &mut [u8]) -> u32
-    requires { ⌜ (good current (now block) ≡ true) × (((0 < size .0) × ((a .0 + size .0 ≤ top) × Vacant (a .0) (a .0 + size .0) (contents current (now block) .taken))) × (now slip ≡ replicate 16 0)) ⌝ }
+    requires { ⌜ Reservable (now block) (a .0) (size .0) (now slip) ⌝ }
     ensures { λ r. ⌜ answer r (now (block .exit)) (now (slip .exit)) ≡ reserved (now (block .entry)) (a .0) (size .0) (changeRange current Taken (Fill (tag 0 0)) (a .0) (size .0) (now (block .entry))) ⌝ }
 {
+    // What is found ends at the top or below.
+    let CheckedAddress::At(end) = a.plus(size) else {
+        return 5;
+    };
     let plain = Tag { flags: 0, node: 0 };
     let number = fill_range(block, Kind::Taken, plain, a, size);
     if number != 0 {
         return number;
     }
-    put_slip(slip, a, Address(a.0 + size.0));
+    put_slip(slip, a, end);
     0
 }
 
@@ -45,7 +45,8 @@ pub fn allocate(block: &mut [u8], q: Query, slip: &mut [u8]) -> u32
         return 8;
     }
     clear_slip(slip);
-    if let Asked::Refused(number) = check(block, q) {
+    let number = check(block, q);
+    if number != 0 {
         return number;
     }
     let Place::Here(a, _) = find_in(block, q) else {

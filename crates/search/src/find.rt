@@ -3,6 +3,7 @@ use crate::seek::find_in;
 use crate::seek::next_in;
 use crate::seek::next_query;
 use address::Address;
+use address::CheckedAddress;
 use block::block_good;
 use block::current_layout;
 use records::table::put_zeros;
@@ -12,14 +13,7 @@ use runs::fit::Place;
 ghost use mathlib.Core.Path.{_≡_};
 ghost use lib.ListN.{length, replicate};
 ghost use Rattle.block.specs.Block.{current};
-ghost use Rattle.search.specs.Answers.{answer, slipOf, nodeKnown, find as findSpec, nextFree};
-ghost use Rattle.search.specs.Steps.{checked};
-
-// What the checks of a search answer.
-pub enum Asked {
-    Refused(u32),
-    Fine,
-}
+ghost use Rattle.search.specs.Answers.{answer, slipOf, nodeKnown, checkNumber, find as findSpec, nextFree};
 
 // Whether the node may be asked for: 0 to 63, or any.
 fn node_known(node: u32) -> bool
@@ -31,25 +25,25 @@ fn node_known(node: u32) -> bool
     node == 0xFFFF_FFFF
 }
 
-// The checks in document 01's order: the block, the node, the alignment, the size.
-pub fn check(block: &[u8], q: Query) -> Asked
-    ensures { λ r. ⌜ r ≡ checked q (now (block .entry)) ⌝ }
+// The number of the checks, in document 01's order: the block, the node, the alignment, the size; 0, if they pass.
+pub fn check(block: &[u8], q: Query) -> u32
+    ensures { λ r. ⌜ r ≡ checkNumber current q (now (block .entry)) ⌝ }
 {
     let layout = current_layout();
     let align = q.align;
     if !block_good(block, layout) {
-        return Asked::Refused(1);
+        return 1;
     }
     if !node_known(q.node) {
-        return Asked::Refused(2);
+        return 2;
     }
     if !align.power_of_two() {
-        return Asked::Refused(3);
+        return 3;
     }
     if q.size.0 == 0 {
-        return Asked::Refused(4);
+        return 4;
     }
-    Asked::Fine
+    0
 }
 
 // An answer slip that says nothing.
@@ -77,13 +71,19 @@ pub fn find(block: &[u8], q: Query, slip: &mut [u8]) -> u32
         return 8;
     }
     clear_slip(slip);
-    if let Asked::Refused(number) = check(block, q) {
+    let number = check(block, q);
+    if number != 0 {
         return number;
     }
     let Place::Here(a, _) = find_in(block, q) else {
         return 5;
     };
-    put_slip(slip, a, Address(a.0 + q.size.0));
+    let size = q.size;
+    // What is found ends at the top or below.
+    let CheckedAddress::At(end) = a.plus(size) else {
+        return 5;
+    };
+    put_slip(slip, a, end);
     0
 }
 
@@ -95,7 +95,8 @@ pub fn next_free(block: &[u8], p: Address, node: u32, slip: &mut [u8]) -> u32
         return 8;
     }
     clear_slip(slip);
-    if let Asked::Refused(number) = check(block, next_query(p, node)) {
+    let number = check(block, next_query(p, node));
+    if number != 0 {
         return number;
     }
     let Place::Here(a, run) = next_in(block, p, node) else {

@@ -12,9 +12,8 @@ ghost use mathlib.Core.Bool.{true};
 ghost use Prim.Native.Nat.{_≤_};
 ghost use lib.ListN.{length};
 ghost use Rattle.block.specs.Block.{current, contents, good};
-ghost use Rattle.search.specs.Search.{boundedEnd, window as windowOf};
-ghost use Rattle.runs.specs.Steps.{placeOf};
-ghost use Rattle.search.specs.Steps.{Ready, partsOf, lowestOf, highestOf, foundHit, nextQuery, nextHit};
+ghost use Rattle.search.specs.Search.{boundedEnd, window as windowOf, foundPlace, nextPlace};
+ghost use Rattle.search.specs.Steps.{Ready, partsOf, lowestOf, highestOf, nextQuery};
 
 // Where a search with this end ends in a block with this limit: 0 means the limit, and a named end is cut to it.
 fn bounded_end(limit: Address, end: Address) -> Address
@@ -72,7 +71,7 @@ fn parts_of(block: &[u8]) -> Parts
 // The lowest eligible address of the block, with its run.
 fn lowest_in(block: &[u8], q: Query) -> Place
     requires { ⌜ Ready (now block) q ⌝ }
-    ensures { λ r. ⌜ r ≡ placeOf (lowestOf (contents current (now (block .entry))) q) ⌝ }
+    ensures { λ r. ⌜ r ≡ lowestOf (contents current (now (block .entry))) q ⌝ }
 {
     let p = parts_of(block);
     let middle = p.middle;
@@ -89,7 +88,7 @@ fn lowest_in(block: &[u8], q: Query) -> Place
 // The highest eligible address of the block, with its run.
 fn highest_in(block: &[u8], q: Query) -> Place
     requires { ⌜ Ready (now block) q ⌝ }
-    ensures { λ r. ⌜ r ≡ placeOf (highestOf (contents current (now (block .entry))) q) ⌝ }
+    ensures { λ r. ⌜ r ≡ highestOf (contents current (now (block .entry))) q ⌝ }
 {
     let p = parts_of(block);
     let middle = p.middle;
@@ -106,7 +105,7 @@ fn highest_in(block: &[u8], q: Query) -> Place
 // What find finds, with its run: bottom-up (direction 1) the lowest eligible address, top-down the highest.
 pub fn find_in(block: &[u8], q: Query) -> Place
     requires { ⌜ Ready (now block) q ⌝ }
-    ensures { λ r. ⌜ r ≡ placeOf (foundHit (contents current (now (block .entry))) q) ⌝ }
+    ensures { λ r. ⌜ r ≡ foundPlace (contents current (now (block .entry))) q ⌝ }
 {
     let h = get_header(block);
     let limit = h.settings.limit;
@@ -133,7 +132,7 @@ pub fn next_query(p: Address, node: u32) -> Query
 // The lowest address at or above `p` in a free run of the node asked for, with that run: the rising walk for one address.
 pub fn next_in(block: &[u8], p: Address, node: u32) -> Place
     requires { ⌜ good current (now block) ≡ true ⌝ }
-    ensures { λ r. ⌜ r ≡ placeOf (nextHit (contents current (now (block .entry))) (p .0) node) ⌝ }
+    ensures { λ r. ⌜ r ≡ nextPlace (contents current (now (block .entry))) (p .0) node ⌝ }
 {
     lowest_in(block, next_query(p, node))
 }

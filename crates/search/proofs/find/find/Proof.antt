@@ -13,17 +13,11 @@ clear-slip-requires c κs = search needs
 check-requires : tie.Need-check-requires
 check-requires c κs = search needs
 
-enum-known-number : tie.Need-enum-known-number
-enum-known-number c = search needs
-
 same-length : tie.Need-same-length
 same-length c = search needs
 
 returns-2 : tie.Need-returns-2
 returns-2 c = search (find-refused, needs)
-
-enum-told : tie.Need-enum-told
-enum-told c = search needs
 
 find-in-requires : tie.Need-find-in-requires
 find-in-requires c κs = search (fine-ready, needs)
@@ -31,8 +25,8 @@ find-in-requires c κs = search (fine-ready, needs)
 enum-known-a : tie.Need-enum-known-a
 enum-known-a c = search needs
 
-enum-told-2 : tie.Need-enum-told-2
-enum-told-2 c = search needs
+enum-told : tie.Need-enum-told
+enum-told c = search needs
 
 same-length-2 : tie.Need-same-length-2
 same-length-2 c = search needs
@@ -40,17 +34,29 @@ same-length-2 c = search needs
 returns-3 : tie.Need-returns-3
 returns-3 c = search (find-none, needs)
 
-add-t15 : tie.Need-add-t15
-add-t15 c = search (found-ends, fine-ready, needs)
+plus-requires : tie.Need-plus-requires
+plus-requires c κs = search needs
 
-put-slip-requires : tie.Need-put-slip-requires
-put-slip-requires c κs = search needs
+enum-known-end : tie.Need-enum-known-end
+enum-known-end c = search needs
+
+enum-told-2 : tie.Need-enum-told-2
+enum-told-2 c = search needs
 
 same-length-3 : tie.Need-same-length-3
 same-length-3 c = search needs
 
 returns-4 : tie.Need-returns-4
-returns-4 c = search (find-some, needs)
+returns-4 c = search (found-ends, fine-ready, needs)
+
+put-slip-requires : tie.Need-put-slip-requires
+put-slip-requires c κs = search needs
+
+same-length-4 : tie.Need-same-length-4
+same-length-4 c = search needs
+
+returns-5 : tie.Need-returns-5
+returns-5 c = search (find-some, needs)
 
 pub find-spec : {M : Type 1} → statement M
 find-spec =
@@ -59,16 +65,18 @@ find-spec =
     returns
     clear-slip-requires
     check-requires
-    enum-known-number
     same-length
     returns-2
-    enum-told
     find-in-requires
     enum-known-a
-    enum-told-2
+    enum-told
     same-length-2
     returns-3
-    add-t15
-    put-slip-requires
+    plus-requires
+    enum-known-end
+    enum-told-2
     same-length-3
-    returns-4)
+    returns-4
+    put-slip-requires
+    same-length-4
+    returns-5)

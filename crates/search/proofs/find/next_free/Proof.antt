@@ -16,17 +16,11 @@ next-query-requires c κs = search needs
 check-requires : tie.Need-check-requires
 check-requires c κs = search needs
 
-enum-known-number : tie.Need-enum-known-number
-enum-known-number c = search needs
-
 same-length : tie.Need-same-length
 same-length c = search needs
 
 returns-2 : tie.Need-returns-2
 returns-2 c = search (next-refused, needs)
-
-enum-told : tie.Need-enum-told
-enum-told c = search needs
 
 next-in-requires : tie.Need-next-in-requires
 next-in-requires c κs = search (next-good, needs)
@@ -34,8 +28,8 @@ next-in-requires c κs = search (next-good, needs)
 enum-known-a : tie.Need-enum-known-a
 enum-known-a c = search needs
 
-enum-told-2 : tie.Need-enum-told-2
-enum-told-2 c = search needs
+enum-told : tie.Need-enum-told
+enum-told c = search needs
 
 same-length-2 : tie.Need-same-length-2
 same-length-2 c = search needs
@@ -60,13 +54,11 @@ next-free-spec =
     clear-slip-requires
     next-query-requires
     check-requires
-    enum-known-number
     same-length
     returns-2
-    enum-told
     next-in-requires
     enum-known-a
-    enum-told-2
+    enum-told
     same-length-2
     returns-3
     put-slip-requires

@@ -1,0 +1,87 @@
+-- Demand 2's sentence on the searches, of every answer: "no address" exactly when no eligible address exists, otherwise the lowest or the highest, by
+-- direction. Assumes nothing.
+use Prim.Native.Nat.{ℕ, _+_, _%_, _≤_, _<_}
+use mathlib.Core.Path.{_≡_}
+use mathlib.Core.Bool.{true}
+use mathlib.Core.List.{List}
+use mathlib.Core.Logic.{_⊎_}
+use lib.ListN.{length}
+use Rattle.regions.specs.declared.Tag.{Tag}
+use Rattle.regions.specs.declared.State.the-variants.{Present}
+use Rattle.regions.specs.Meaning.{Meaning, at}
+use Rattle.regions.specs.Free.{freeMemory}
+use Rattle.regions.specs.Runs.{OneTag}
+use Rattle.regions.specs.Bytes.{number}
+use Rattle.block.specs.declared.Layout.{Layout}
+use Rattle.block.specs.Block.{Contents, contents}
+use Rattle.runs.specs.declared.Query.{Query}
+use Rattle.runs.specs.Eligible.{onNode, asks}
+use Rattle.search.specs.Answers.{Answer, checkNumber, nextNumber, find, allocate, nextFree}
+
+-- ---- which addresses
+
+-- untaken memory, not no-map, with its tags
+abbrev pub freeIn : Contents → Meaning
+freeIn s = freeMemory (at (s .memory)) (at (s .taken))
+
+-- document 01's eligible, under E3's limit (an end of 0 names none): the size addresses from a are free, of one tag, which the query asks for
+pub record Eligible (s : Contents) (q : Query) (a : ℕ) : Type 0 where
+  pub aligned : a % q .align .0 ≡ 0
+  pub from-start : q .start .0 ≤ a
+  pub from-4096 : 4096 ≤ a
+  pub by-limit : a + q .size .0 ≤ s .settings .limit .0
+  pub by-end : (q .end .0 ≡ 0) ⊎ (a + q .size .0 ≤ q .end .0)
+  pub one-tag : OneTag (freeIn s) (asks q) (q .size .0) a
+
+-- free for next free: at or above p, of the node asked for
+pub record FreeFrom (s : Contents) (p node a : ℕ) : Type 0 where
+  pub from : p ≤ a
+  pub tag : Tag
+  pub asked : onNode node tag ≡ true
+  pub present : freeIn s a ≡ Present tag
+
+-- ---- the sentence
+
+-- E holds at x, and at no number beyond x
+pub record Best (E : ℕ → Type 0) (beyond : ℕ → ℕ → Type 0) (x : ℕ) : Type 0 where
+  pub holds : E x
+  pub none-beyond : (y : ℕ) → E y → beyond y x → ⊥
+
+-- the slip is of 16 bytes, and the checks have the number 0
+pub record Passed (checks : ℕ) (slip : List ℕ) : Type 0 where
+  pub of-16 : length slip ≡ 16
+  pub fine : checks ≡ 0
+
+-- what an answer says of the addresses at which E holds: 5 exactly when the checks passed and there is none; when there is one, a number of
+-- `done`; and with 0 the slip's first number is one, and none lies beyond it
+pub record Searched (passed : Type 0) (E : ℕ → Type 0) (beyond : ℕ → ℕ → Type 0) (done : ℕ → Type 0) (a : Answer) : Type 0 where
+  pub five : a .number ≡ 5 → passed × ((x : ℕ) → E x → ⊥)
+  pub none : passed → ((x : ℕ) → E x → ⊥) → a .number ≡ 5
+  pub some : passed → (x : ℕ) → E x → done (a .number)
+  pub given : a .number ≡ 0 → Best E beyond (number 8 (a .slip))
+
+-- y lies beyond x: bottom-up (direction 1) below it, top-down (0) above it
+abbrev pub Beyond : ℕ → ℕ → ℕ → Type 0
+Beyond direction y x = ((direction ≡ 1) × (y < x)) ⊎ ((direction ≡ 0) × (x < y))
+
+-- find and allocate, of the block as lent
+abbrev pub LooksEligible : Layout → Query → List ℕ → List ℕ → (ℕ → Type 0) → Answer → Type 0
+LooksEligible L q b slip done a = Searched (Passed (checkNumber L q b) slip) (Eligible (contents L b) q) (Beyond (contents L b .settings .direction)) done a
+
+-- done, or the table is full
+abbrev pub OrFull : ℕ → Type 0
+OrFull n = (n ≡ 0) ⊎ (n ≡ 6)
+
+abbrev pub FindSentence : Type 0
+FindSentence = (L : Layout) (q : Query) (b slip : List ℕ) → LooksEligible L q b slip (λ n. n ≡ 0) (find L q b slip)
+
+-- 6 speaks of the address that find would give
+abbrev pub AllocateSentence : Type 0
+AllocateSentence =
+    (L : Layout) (q : Query) (b slip : List ℕ)
+    → LooksEligible L q b slip OrFull (allocate L q b slip) × (allocate L q b slip .number ≡ 6 → find L q b slip .number ≡ 0)
+
+abbrev pub NextFreeSentence : Type 0
+NextFreeSentence =
+    (L : Layout) (p node : ℕ) (b slip : List ℕ)
+    → Searched (Passed (nextNumber L node b) slip) (FreeFrom (contents L b) p node) (λ y x. y < x) (λ n. n ≡ 0) (nextFree L p node b slip)

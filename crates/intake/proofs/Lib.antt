@@ -1,3 +1,4 @@
+pub mod Answers
 pub mod ByKind
 pub mod Turns
 pub mod Whole

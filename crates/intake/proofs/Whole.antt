@@ -1,19 +1,20 @@
 -- A report is taken in whole or not at all: refusals in their order, and the block put back. Assumes nothing.
 use Prim.Native.Nat.{ℕ, _+_, _*_, _/_, _%_, _≤_, _<_}
-use mathlib.Core.Path.{_≡_, refl, ap, _∙_}
+use mathlib.Core.Path.{_≡_, refl, sym, ap, _∙_}
 use mathlib.Core.Bool.{Bool, true, false, not}
 use mathlib.Core.List.{List, [], _++_, append-nil}
 use native.Mathlib.Omega.{arith}
 use lib.Dec.{eqb}
 use lib.ListN.{length, take, drop, take-append-drop, drop-of-length-le}
 use lib.Seq.{take-all, length-take-le}
-use borrow.Author.Tests.{eq-eqb, ne-eqb, le-leb, lt-leb, eqb-true, eqb-false}
+use borrow.Author.Tests.{eq-eqb, ne-eqb, le-leb, eqb-true, eqb-false}
 use Rattle.block.specs.declared.Layout.{Layout}
 use Rattle.block.specs.Block.{current, good}
 use Rattle.tables.specs.Commands.{Outcome, outcome, unless}
 use Rattle.block.proofs.Blocks.{good-length, good-here, bad-here}
 use Rattle.intake.specs.E820.{entries, readable, entrySteps, intakeE820}
 use Rattle.intake.specs.Turns.{Step, inTurn, wholly}
+use Rattle.intake.proofs.Answers.{block-first, part-entry, over-128}
 
 -- ---- put back after a refusal
 
@@ -42,25 +43,21 @@ module _ (ss : List Step) (b : List ℕ) (x : ℕ) (c : List ℕ) (o : outcome x
 
 module _ (L : Layout) (w : L ≡ current) (b : List ℕ) (g : Bool) (q : g ≡ good L b) (r : List ℕ) where
   pub not-good : not g ≡ true → outcome 1 b ≡ intakeE820 current r b
-  unfolding intakeE820
-  not-good h = rw (bad-here L w b g q h)
+  not-good h = sym (block-first current r b (bad-here L w b g q h))
 
   module _ (h : not g ≡ false) where
     pub is-good : good current b ≡ true
     is-good = good-here L w b g q h
 
     pub ragged : (length r % 20 ≡ 0 → ⊥) → outcome 10 b ≡ intakeE820 current r b
+    ragged n = sym (part-entry current r b is-good n)
+
+    pub too-long : 128 < length r / 20 → outcome 10 b ≡ intakeE820 current r b
+    too-long n = sym (over-128 current r b is-good n)
+
+    pub taken-in : length r % 20 ≡ 0 → length r / 20 ≤ 128 → (p : Outcome) → p ≡ wholly (entrySteps current (entries r)) b → p ≡ intakeE820 current r b
     unfolding intakeE820 readable
-    ragged n = rw (is-good, ne-eqb (length r % 20) 0 n)
-
-    module _ (e : length r % 20 ≡ 0) where
-      pub too-long : 128 < length r / 20 → outcome 10 b ≡ intakeE820 current r b
-      unfolding intakeE820 readable
-      too-long n = rw (is-good, eq-eqb (length r % 20) 0 e, lt-leb (length r / 20) 128 n)
-
-      pub taken-in : length r / 20 ≤ 128 → (p : Outcome) → p ≡ wholly (entrySteps current (entries r)) b → p ≡ intakeE820 current r b
-      unfolding intakeE820 readable
-      taken-in n p q = rw (is-good, eq-eqb (length r % 20) 0 e, le-leb (length r / 20) 128 n) q
+    taken-in e n p q = rw (is-good, eq-eqb (length r % 20) 0 e, le-leb (length r / 20) 128 n) q
 
 -- ---- a report that was taken in
 

@@ -75,10 +75,6 @@ module _ (k : Kind) (xs : List Region) where
         fit : Fits low below r
         fit = fits-Fits low below r (sym q ∙ not-false b t)
 
-        -- the sum of the sizes never passes the end
-        along-sum : end r < 2 ^ 64 → sum + r .size .0 < 2 ^ 64
-        along-sum h = omega (arith, fit .low, a .small)
-
         along-next : (d : Bool) → d ≡ legalTag k (r .tag) → not d ≡ false → end r < 2 ^ 64 → Along k xs rs (end r) (Present (r .tag)) (sum + r .size .0)
         unfolding sizes
         along-next d p u h =
@@ -149,13 +145,9 @@ module _ (k : Kind) (l : List ℕ) (n : ℕ) where
           pub fit-above : low < r .base .0 → true ≡ fits low below r
           fit-above g = fits-above low below r some g
 
-          module _ (q : true ≡ fits low below r) where
-            pub records-room : sum + r .size .0 < 18446744073709551616
-            records-room = along-sum k (readRegions n l) _ low below sum a r _ rest true q refl (past-end .1)
-
-            pub records-next : (d : Bool) → d ≡ legalTag k (r .tag) → not d ≡ false
-                → Along k (readRegions n l) (readRegions (n - (i + 1)) (drop (24 * (i + 1)) l)) x (Present (r .tag)) (sum + r .size .0)
-            records-next d v u = rw (past-end .0) (along-next k (readRegions n l) _ low below sum a r _ rest true q refl d v u (past-end .1))
+          pub records-next : true ≡ fits low below r → (d : Bool) → d ≡ legalTag k (r .tag) → not d ≡ false
+              → Along k (readRegions n l) (readRegions (n - (i + 1)) (drop (24 * (i + 1)) l)) x (Present (r .tag)) (sum + r .size .0)
+          records-next q d v u = rw (past-end .0) (along-next k (readRegions n l) _ low below sum a r _ rest true q refl d v u (past-end .1))
 
 -- ---- the whole part
 

@@ -7,12 +7,7 @@ use native.Mathlib.Omega.{arith}
 use native.Mathlib.Nat.{div-eq-of-lt}
 use lib.Dec.{ltb, eqb}
 use borrow.Author.Tests.{lt-ltb, le-ltb, le-leb, lt-leb, eq-eqb, ne-eqb}
-use Rattle.address.specs.declared.Address.{Address}
-use Rattle.address.specs.declared.CheckedAddress.{CheckedAddress}
-use Rattle.address.specs.declared.CheckedAddress.the-variants.{At, Outside}
-use Rattle.address.specs.Numbers.{address}
 use Rattle.address.proofs.Tests.{le-or-lt}
-use Rattle.address.proofs.Checked.{address-at, address-outside}
 use Rattle.regions.specs.declared.Tag.{Tag}
 use Rattle.regions.specs.declared.Region.{Region}
 use Rattle.regions.specs.declared.State.{State}
@@ -21,7 +16,7 @@ use Rattle.regions.specs.declared.Kind.{Kind}
 use Rattle.regions.specs.declared.Kind.the-variants.{Memory, Taken}
 use Rattle.regions.specs.declared.Change.{Change}
 use Rattle.regions.specs.declared.Change.the-variants.{Fill, Clear, Mark, Unmark}
-use Rattle.regions.specs.Meaning.{end, joins, sameTag}
+use Rattle.regions.specs.Meaning.{sameTag}
 use Rattle.regions.specs.Changes.{change, setFlag, clearFlag}
 use Rattle.regions.specs.Steps.{FlagBounded, FlagsBounded}
 use Rattle.regions.specs.Lists.{is, fits, legalTag}
@@ -95,25 +90,6 @@ module _ (c : ℕ) (v : State) (r : Region) where
       whole : (b : Bool) → b && true ≡ b
       whole true = refl
       whole false = refl
-
--- ---- a region that grows
-
-module _ (r : Region) (c : Address) (t : Tag) (x : CheckedAddress) (q : x ≡ address (end r)) where
-  pub joins-past : c .0 < 18446744073709551616 → x ≡ Outside → false ≡ joins r (c .0) t
-  joins-past h e =
-      let d : end r ≡ c .0 → ⊥ = λ f. omega (arith, address-outside (end r) x q e) in
-      rw (ne-eqb (end r) (c .0) d)
-
-  module _ (e : Address) (f : x ≡ At e) where
-    pub joins-apart : (e .0 ≡ c .0 → ⊥) → false ≡ joins r (c .0) t
-    joins-apart n =
-        let d : end r ≡ c .0 → ⊥ = λ g. n (address-at (end r) x e q f .0 ∙ g) in
-        rw (ne-eqb (end r) (c .0) d)
-
-    pub joins-tag : (b : Bool) → e .0 ≡ c .0 → b ≡ sameTag (r .tag) t → b ≡ joins r (c .0) t
-    joins-tag b g h =
-        let d : end r ≡ c .0 = sym (address-at (end r) x e q f .0) ∙ g in
-        rw (eq-eqb (end r) (c .0) d) h
 
 -- ---- flags
 

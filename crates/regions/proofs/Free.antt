@@ -17,14 +17,7 @@ use Rattle.regions.proofs.Rises.{Canonical}
 use Rattle.regions.proofs.RoundTrip.{rises-above, at-shortest, at-shortest-above}
 use Rattle.regions.proofs.Lying.{passes}
 
-pub pass-untaken : (p : Tag → Bool) (v u : State) → passes p v ≡ false → passes p (untaken v u) ≡ false
-pass-untaken p v Absent e = e
-pass-untaken p v (Present t) e = refl
-
-untaken-is : (v u : State) (t : Tag) → untaken v u ≡ Present t → v ≡ Present t
-untaken-is v Absent t e = e
-untaken-is v (Present s) t e = absurd (zero-not-one cc)
-
+-- usable memory has memory's tag
 usable-is : (v : State) (t : Tag) → usable v ≡ Present t → v ≡ Present t
 usable-is Absent t e = e
 usable-is (Present u) t e = go (has 4 (u .flags)) e
@@ -32,6 +25,14 @@ usable-is (Present u) t e = go (has 4 (u .flags)) e
     go : (b : Bool) → cond b Absent (Present u) ≡ Present t → Present u ≡ Present t
     go true e = absurd (zero-not-one cc)
     go false e = e
+
+pub pass-untaken : (p : Tag → Bool) (v u : State) → passes p v ≡ false → passes p (untaken v u) ≡ false
+pass-untaken p v Absent e = e
+pass-untaken p v (Present t) e = refl
+
+untaken-is : (v u : State) (t : Tag) → untaken v u ≡ Present t → v ≡ Present t
+untaken-is v Absent t e = e
+untaken-is v (Present s) t e = absurd (zero-not-one cc)
 
 -- the runs say what is free, at every address
 pub runs-at : (ms ts : List Region) → Canonical top ms → (a : ℕ) → at (freeRuns ms ts) a ≡ freeMemory (at ms) (at ts) a

@@ -20,36 +20,7 @@ use Rattle.regions.proofs.Trim.{rises-apart}
 
 -- ---- lying in one region
 
-or-true : (a : Bool) → a || true ≡ true
-or-true true = refl
-or-true false = refl
-
--- where a stretch of one tag lies in a rising list, it lies in one region
-pub in-one : (p : Tag → Bool) (size a : ℕ) (t : Tag) {c n : ℕ} {v : State} {xs : List Region} → Rises c v n xs → 0 < size → p t ≡ true
-    → ((b : ℕ) → a ≤ b → b < a + size → at xs b ≡ Present t) → inOne p size a xs ≡ true
-unfolding inOne at
-in-one p size a t (ended l) s k h = let e = h a (omega arith) (omega arith) in absurd (zero-not-one cc)
-in-one p size a t (next {r = r} {rs = rs} f w) s k h = go (le-or-lt (r .base .0) a) (le-or-lt (end r) a) (in-one p size a t w s k)
-  where
-    here : r .base .0 ≤ a → a < end r → r .tag ≡ t
-    here l m = let e = sym (at-here r rs a l m) ∙ h a (omega arith) (omega arith) in cc
-
-    whole : r .base .0 ≤ a → a < end r → (a + size ≤ end r) ⊎ (end r < a + size) → liesIn p size a r ≡ true
-    whole l m (inl i) =
-        let j : p (r .tag) ≡ true = rw (here l m) k in
-        and j (and (le-leb (r .base .0) a l) (le-leb (a + size) (end r) i))
-    whole l m (inr i) =
-        absurd (rises-apart w (sym (at-past r rs (end r) (omega arith)) ∙ h (end r) (omega arith) i ∙ ap Present (sym (here l m))))
-
-    go : (r .base .0 ≤ a) ⊎ (a < r .base .0) → (end r ≤ a) ⊎ (a < end r)
-        → (((b : ℕ) → a ≤ b → b < a + size → at rs b ≡ Present t) → inOne p size a rs ≡ true) → liesIn p size a r || inOne p size a rs ≡ true
-    go (inl l) (inr m) ih = rw (whole l m (le-or-lt (a + size) (end r)))
-    go (inl l) (inl m) ih = rw (ih (λ b i j. sym (at-past r rs b (omega arith)) ∙ h b i j)) (or-true (liesIn p size a r))
-    go (inr l) m ih =
-        let e = sym (at-before r rs a l ∙ rises-below a w (omega arith)) ∙ h a (omega arith) (omega arith) in
-        absurd (zero-not-one cc)
-
--- and what lies in one region is a stretch of one tag, from c on and below n
+-- what lies in one region is a stretch of one tag, from c on and below n
 pub record Stretch (xs : List Region) (p : Tag → Bool) (size a c n : ℕ) : Type 0 where
   pub low : c ≤ a
   pub high : a + size ≤ n
@@ -75,6 +46,35 @@ one-in p size a {c} {n} {v} (next {r = r} {rs = rs} f w) e = go (liesIn p size a
         let k = s .same in
         let o : OneTag (at (r ∷ rs)) p size a = record { tag = k .tag; right = k .right; all = λ b i j. at-past r rs b (omega (arith, s .low)) ∙ k .all b i j } in
         record { low = omega (arith, s .low); high = s .high; same = o }
+
+or-true : (a : Bool) → a || true ≡ true
+or-true true = refl
+or-true false = refl
+
+-- and where a stretch of one tag lies in a rising list, it lies in one region
+pub in-one : (p : Tag → Bool) (size a : ℕ) (t : Tag) {c n : ℕ} {v : State} {xs : List Region} → Rises c v n xs → 0 < size → p t ≡ true
+    → ((b : ℕ) → a ≤ b → b < a + size → at xs b ≡ Present t) → inOne p size a xs ≡ true
+unfolding inOne at
+in-one p size a t (ended l) s k h = let e = h a (omega arith) (omega arith) in absurd (zero-not-one cc)
+in-one p size a t (next {r = r} {rs = rs} f w) s k h = go (le-or-lt (r .base .0) a) (le-or-lt (end r) a) (in-one p size a t w s k)
+  where
+    here : r .base .0 ≤ a → a < end r → r .tag ≡ t
+    here l m = let e = sym (at-here r rs a l m) ∙ h a (omega arith) (omega arith) in cc
+
+    whole : r .base .0 ≤ a → a < end r → (a + size ≤ end r) ⊎ (end r < a + size) → liesIn p size a r ≡ true
+    whole l m (inl i) =
+        let j : p (r .tag) ≡ true = rw (here l m) k in
+        and j (and (le-leb (r .base .0) a l) (le-leb (a + size) (end r) i))
+    whole l m (inr i) =
+        absurd (rises-apart w (sym (at-past r rs (end r) (omega arith)) ∙ h (end r) (omega arith) i ∙ ap Present (sym (here l m))))
+
+    go : (r .base .0 ≤ a) ⊎ (a < r .base .0) → (end r ≤ a) ⊎ (a < end r)
+        → (((b : ℕ) → a ≤ b → b < a + size → at rs b ≡ Present t) → inOne p size a rs ≡ true) → liesIn p size a r || inOne p size a rs ≡ true
+    go (inl l) (inr m) ih = rw (whole l m (le-or-lt (a + size) (end r)))
+    go (inl l) (inl m) ih = rw (ih (λ b i j. sym (at-past r rs b (omega arith)) ∙ h b i j)) (or-true (liesIn p size a r))
+    go (inr l) m ih =
+        let e = sym (at-before r rs a l ∙ rises-below a w (omega arith)) ∙ h a (omega arith) (omega arith) in
+        absurd (zero-not-one cc)
 
 -- the size addresses from a lie in one run of f's shortest list exactly when f gives them all one tag, which passes
 module _ (f : Meaning) (p : Tag → Bool) (size a : ℕ) (pos : 0 < size) where

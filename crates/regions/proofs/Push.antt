@@ -1,4 +1,4 @@
--- A stretch of one state is put behind the shortest list in one step. Assumes nothing.
+-- What joins a region, and a stretch of one state put behind the shortest list in one step. Assumes nothing.
 use Prim.Native.Nat.{ℕ, zero, suc, _+_, _-_, _≤_, _<_}
 use mathlib.Core.Path.{_≡_, refl, sym, ap, _∙_}
 use mathlib.Core.Bool.{Bool, true, false, cond}
@@ -7,8 +7,13 @@ use native.Mathlib.Omega.{arith}
 use native.Mathlib.Nat.{add-assoc, add-zero, add-suc}
 use native.Mathlib.Numerals.{add-one}
 use lib.Dec.{eqb}
-use borrow.Author.Tests.{eq-eqb, eqb-true}
+use borrow.Author.Tests.{eq-eqb, ne-eqb, eqb-true}
+use Rattle.address.specs.declared.Address.{Address}
+use Rattle.address.specs.declared.CheckedAddress.{CheckedAddress}
+use Rattle.address.specs.declared.CheckedAddress.the-variants.{At, Outside}
+use Rattle.address.specs.Numbers.{address}
 use Rattle.address.proofs.Tests.{both, and, zero-not-one}
+use Rattle.address.proofs.Checked.{address-at, address-outside}
 use Rattle.regions.specs.declared.Tag.{Tag}
 use Rattle.regions.specs.declared.Region.{Region}
 use Rattle.regions.specs.declared.State.{State}
@@ -25,6 +30,7 @@ same-true t u e =
 pub same-self : (t : Tag) → sameTag t t ≡ true
 same-self t = and (eq-eqb (t .flags) (t .flags) refl) (eq-eqb (t .node) (t .node) refl)
 
+-- what is one with a region begins at its end and has its tag
 pub joins-true : (r : Region) (c : ℕ) (t : Tag) → joins r c t ≡ true → (end r ≡ c) × (r .tag ≡ t)
 joins-true r c t e =
     let f = both (eqb (end r) c) (sameTag (r .tag) t) e in
@@ -35,6 +41,25 @@ joins-yes r c t p q = and (eq-eqb (end r) c p) (rw q (same-self t))
 
 pub joins-no : (r : Region) (c : ℕ) (t : Tag) → joins r c t ≡ false → end r ≡ c → r .tag ≡ t → ⊥
 joins-no r c t e p q = let f = joins-yes r c t p q in absurd (zero-not-one cc)
+
+-- the code's test, answer by answer
+
+module _ (r : Region) (c : Address) (t : Tag) (x : CheckedAddress) (q : x ≡ address (end r)) where
+  pub joins-past : c .0 < 18446744073709551616 → x ≡ Outside → false ≡ joins r (c .0) t
+  joins-past h e =
+      let d : end r ≡ c .0 → ⊥ = λ f. omega (arith, address-outside (end r) x q e) in
+      rw (ne-eqb (end r) (c .0) d)
+
+  module _ (e : Address) (f : x ≡ At e) where
+    pub joins-apart : (e .0 ≡ c .0 → ⊥) → false ≡ joins r (c .0) t
+    joins-apart n =
+        let d : end r ≡ c .0 → ⊥ = λ g. n (address-at (end r) x e q f .0 ∙ g) in
+        rw (ne-eqb (end r) (c .0) d)
+
+    pub joins-tag : (b : Bool) → e .0 ≡ c .0 → b ≡ sameTag (r .tag) t → b ≡ joins r (c .0) t
+    joins-tag b g h =
+        let d : end r ≡ c .0 = sym (address-at (end r) x e q f .0) ∙ g in
+        rw (eq-eqb (end r) (c .0) d) h
 
 -- ---- join twice is join once
 

@@ -8,7 +8,7 @@ ghost use Rattle.regions.specs.Meaning.{end as endOf, joins as joinsAt, 
 ghost use Prim.Native.Nat.{_<_, _≤_};
 ghost use Rattle.regions.specs.Changes.{change, setFlag, clearFlag};
 ghost use Rattle.regions.specs.Steps.{FlagBounded, FlagsBounded};
-ghost use Rattle.regions.specs.Lists.{is as isTag, fits as fitsAfter, legalTag};
+ghost use Rattle.regions.specs.Lists.{is as isTag, legalTag};
 
 pub mod bytes;
 
@@ -170,22 +170,5 @@ impl Region {
         let base = self.base;
         let size = self.size;
         base.plus(size)
-    }
-
-    // Whether the region may come next in a table, where nothing reaches past `low` and the address below has the state `below`.
-    pub fn fits(self, low: Address, below: State) -> bool
-        ensures { λ r. ⌜ r ≡ fitsAfter (low .0) below self ⌝ }
-    {
-        if self.size.0 == 0 {
-            return false;
-        }
-        if self.base.0 < low.0 {
-            return false;
-        }
-        if low.0 < self.base.0 {
-            return true;
-        }
-        let tag = self.tag;
-        !below.is(tag)
     }
 }

@@ -4,10 +4,12 @@ use lib.ListN.{drop}
 use mathlib.Core.Logic.{⊎-elim}
 use mathlib.Core.Path.{_≡_}
 use mathlib.Core.Bool.{true}
+use native.Mathlib.Omega.{arith}
+use Rattle.regions.specs.Meaning.{top-is}
 use Rattle.regions.specs.Lists.{fits}
 use Rattle.regions.specs.Bytes.{readRegions}
 use Rattle.regions.proofs.Numbers.{bytes-all}
-use Rattle.records.proofs.Checking.{Along, records-start, records-done, records-tag, records-past, records-low, records-touch, fit-level, fit-above, records-room, records-next}
+use Rattle.records.proofs.Checking.{Along, records-start, records-done, records-tag, records-past, records-low, records-touch, fit-level, fit-above, records-next}
 use borrow.Author.Needs.{needs}
 use Rattle.records.proofs.table.check_records.Statement.{statement}
 use Rattle.records.proofs.table.check_records.Tie as tie
@@ -52,25 +54,6 @@ returns-4 c =
     records-touch _ _ _ _ _ _ _ (o .inv .1) _ (c .before .before .before .before .before .before .before .before .before .before .loop-test .taken) (c .before .before .before .before .before .before .before .before .before .get-region .ensures) _ (c .before .before .before .before .before .before .before .wrapping-add-u64 .ensures) bs (c .before .before .before .before .if2 .left) _ (c .before .before .if4 .left)
     (c .before .before .before .if3 .taken) (c .before .is .ensures) (c .if5 .taken)
 
-add-total : tie.Need-add-total Inv-loop μ-loop
-add-total c =
-    let o = c .before .before .before .before .before .before .before .before .loop in
-    let r = c .before .before .before .before .before .before .get-region in
-    let e = c .before .before .before .before .wrapping-add-u64 in
-    let bs = bytes-all _ (c .before .before .before .before .before .before .before .before .before .shared-slice-known .given) in
-    let lt = c .before .before .before .before .before .before .before .loop-test .taken in
-    let up = c .before .if2 .left in
-    let q : true ≡ fits (o .low) (o .below) (r .result) = ⊎-elim
-    (λ w. fit-level _ _ _ _ _ _ _ (o .inv .1) _ lt (r .ensures) _ (e .ensures) bs up _ (w .1 .left) (w .0 .taken) (w .2 .ensures) (w .3 .left))
-    (λ w. fit-above _ _ _ _ _ _ _ (o .inv .1) _ lt (r .ensures) _ (e .ensures) bs up (w .left)) (c .if3 .came) in
-    record { fits = records-room _ _ _ _ _ _ _ (o .inv .1) _ lt (r .ensures) _ (e .ensures) bs up q }
-
-add-i : tie.Need-add-i Inv-loop μ-loop
-add-i c = search needs
-
-loop-less : tie.Need-loop-less Inv-loop μ-loop
-loop-less c = search needs
-
 loop-again : tie.Need-loop-again Inv-loop μ-loop
 loop-again c =
     let o = c .before .before .before .before .before .before .before .before .loop in
@@ -83,6 +66,16 @@ loop-again c =
     (λ w. fit-level _ _ _ _ _ _ _ (o .inv .1) _ lt (r .ensures) _ (e .ensures) bs up _ (w .1 .left) (w .0 .taken) (w .2 .ensures) (w .3 .left))
     (λ w. fit-above _ _ _ _ _ _ _ (o .inv .1) _ lt (r .ensures) _ (e .ensures) bs up (w .left)) (c .if3 .came) in
     (search needs, records-next _ _ _ _ _ _ _ (o .inv .1) _ lt (r .ensures) _ (e .ensures) bs up q _ (c .before .before .before .legal .ensures) (c .before .before .if1 .left))
+
+-- the sum is the total of what is checked then
+add-total : tie.Need-add-total Inv-loop μ-loop
+add-total c = record { fits = omega (arith, loop-again c .1 .small, loop-again c .1 .high, top-is) }
+
+add-i : tie.Need-add-i Inv-loop μ-loop
+add-i c = search needs
+
+loop-less : tie.Need-loop-less Inv-loop μ-loop
+loop-less c = search needs
 
 returns-5 : tie.Need-returns-5 Inv-loop μ-loop
 returns-5 c = search (records-done, needs)

@@ -1,5 +1,5 @@
 -- `regions::Region::joins` meets its contract.
-use Rattle.regions.proofs.Fitting.{joins-past, joins-apart, joins-tag}
+use Rattle.regions.proofs.Push.{joins-past, joins-apart, joins-tag}
 use borrow.Author.Needs.{needs}
 use Rattle.regions.proofs.Region.joins.Statement.{statement}
 use Rattle.regions.proofs.Region.joins.Tie as tie

@@ -1,16 +1,16 @@
 -- Where the commands that cover an address are all the same, it ends changed once, as document 01 says; where none does, as it was. Assumes nothing.
-use Prim.Native.Nat.{ℕ, _+_, _-_, _/_, _%_}
+use Prim.Native.Nat.{ℕ}
 use mathlib.Core.Path.{_≡_, refl, sym, ap, _∙_}
 use mathlib.Core.Bool.{Bool, true, false, cond}
 use mathlib.Core.List.{List, [], _∷_, List·Memᴰ, List·Memᴰ·head, List·Memᴰ·tail, List·Memᴰ·not-nil}
-use native.Mathlib.Omega.{arith}
-use borrow.Author.Tests.{eq-eqb, ne-eqb, eqb-true, eqb-false}
+use lib.Dec.{lit<}
 use Rattle.address.proofs.Tests.{clash}
 use Rattle.regions.specs.declared.Kind.{Kind}
 use Rattle.regions.specs.declared.State.{State}
 use Rattle.regions.specs.declared.State.the-variants.{Absent, Present}
 use Rattle.regions.specs.Lists.{legalTag}
-use Rattle.regions.specs.Changes.{has, setFlag, clearFlag, change}
+use Rattle.regions.specs.Changes.{change}
+use Rattle.regions.proofs.Flags.{set-twice, clear-twice}
 use Rattle.regions.proofs.Push.{same-true}
 use Rattle.regions.proofs.Legal.{legalState}
 use Rattle.tables.specs.declared.commands.Verb.{Verb}
@@ -21,34 +21,15 @@ use Rattle.memblock.proofs.Steps.{works, made}
 
 -- ---- a command made twice is made once
 
-set-twice : (f : ℕ) → setFlag 4 (setFlag 4 f) ≡ setFlag 4 f
-set-twice f = go (has 4 f) refl
-  where
-    go : (b : Bool) → has 4 f ≡ b → setFlag 4 (cond b f (f + 4)) ≡ cond b f (f + 4)
-    go true e = rw e
-    go false e =
-        let n = eqb-false (f / 4 % 2) 1 e in
-        let h : (f + 4) / 4 % 2 ≡ 1 = omega arith in
-        rw (eq-eqb ((f + 4) / 4 % 2) 1 h)
-
-clear-twice : (f : ℕ) → clearFlag 4 (clearFlag 4 f) ≡ clearFlag 4 f
-clear-twice f = go (has 4 f) refl
-  where
-    go : (b : Bool) → has 4 f ≡ b → clearFlag 4 (cond b (f - 4) f) ≡ cond b (f - 4) f
-    go true e =
-        let n = eqb-true (f / 4 % 2) 1 e in
-        rw (ne-eqb ((f - 4) / 4 % 2) 1 (λ z. omega arith))
-    go false e = rw e
-
 change-twice : (w : Verb) (v : State) → change (changeOf w) (change (changeOf w) v) ≡ change (changeOf w) v
 unfolding change
 change-twice (Add t) Absent = refl
 change-twice (Add t) (Present u) = refl
 change-twice Remove v = refl
 change-twice Mark Absent = refl
-change-twice Mark (Present t) = rw set-twice
+change-twice Mark (Present t) = rw (set-twice 4 (lit< tt))
 change-twice Unmark Absent = refl
-change-twice Unmark (Present t) = rw clear-twice
+change-twice Unmark (Present t) = rw (clear-twice 4 (lit< tt))
 change-twice Reserve Absent = refl
 change-twice Reserve (Present u) = refl
 change-twice Free v = refl

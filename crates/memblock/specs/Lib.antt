@@ -1,4 +1,5 @@
 pub mod Calls
+pub mod Freed
 pub mod Lists
 pub mod Refusals
 pub mod Cases

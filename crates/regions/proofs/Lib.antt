@@ -13,6 +13,7 @@ pub mod Prefix
 pub mod Update
 pub mod Trim
 pub mod Lying
+pub mod Flags
 pub mod Free
 pub mod Few
 pub mod Fewest

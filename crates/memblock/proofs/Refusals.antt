@@ -201,7 +201,7 @@ fair (toSet limit direction) b = plain-fair b _ (set-fair b limit direction)
 fair (toCommand c) b = plain-fair b _ (command-fair b c)
 fair (toTrim align) b = plain-fair b _ (trim-fair b align)
 fair (toFind q slip) b = find-fair b slip q
-fair (toNextFree from node slip) b = next-free-fair b slip from node
+fair (toNextFree from node slip) b = next-free-fair b slip _ _
 fair (toAllocate q slip) b = allocate-fair b slip q
 fair (toIntake report) b = plain-fair b _ (intake-fair b report)
 

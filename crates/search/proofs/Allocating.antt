@@ -30,7 +30,7 @@ use Rattle.search.specs.Steps.{Reservable}
 use Rattle.search.proofs.Answering.{no-slip, refused, fine, fine-ready, found-vacant}
 
 -- a list that does not fit leaves the block
-store-leaves : (L : Layout) (k : Kind) (xs : List Region) (b e : List ℕ) (n : ℕ) → outcome n e ≡ store L k xs b → (n ≡ 0 → ⊥) → e ≡ b
+pub store-leaves : (L : Layout) (k : Kind) (xs : List Region) (b e : List ℕ) (n : ℕ) → outcome n e ≡ store L k xs b → (n ≡ 0 → ⊥) → e ≡ b
 unfolding store
 store-leaves L k xs b e n q d = go (leb (length xs) (capacity L k)) q
   where

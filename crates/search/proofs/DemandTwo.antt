@@ -114,7 +114,7 @@ record Answers (done : ℕ → Type 0) (answers : Place → Answer) : Type 0 whe
   other : done 5 → ⊥
   first : (a : Address) (r : Run) → a .0 < top → answers (Here a r) .number ≡ 0 → number 8 (answers (Here a r) .slip) ≡ a .0
 
-slip-first : (x y : ℕ) → x < top → number 8 (slipOf x y) ≡ x
+pub slip-first : (x y : ℕ) → x < top → number 8 (slipOf x y) ≡ x
 slip-first x y h = number-bytes 8 x (bytes 8 y) (omega (arith, top-is))
 
 -- E holds where a test passes, all below the top, and the best that passes is answered
@@ -204,25 +204,9 @@ allocate-answers L b size = record { nowhere = refl; here = λ a r. here (a .0) 
         go true f e = slip-first a (a + size) l
         go false f e = absurd (eqb-false (o .number) 0 f e)
 
-module _ (L : Layout) (q : Query) (b slip : List ℕ) where
-  abbrev allocated : Answer
-  allocated = allocateAnswer L b (q .size .0) (foundPlace (contents L b) q)
-
-  full-found : allocate L q b slip .number ≡ 6 → find L q b slip .number ≡ 0
-  unfolding allocate
-  full-found e =
-      let p = passed (checkNumber L q b) b slip allocated (check-low L q b) 6 (inr (omega arith, omega arith)) e in
-      go p (found-told L q b slip OrFull (allocateAnswer L b (q .size .0)) (allocate-answers L b (q .size .0)) p)
-    where
-      go : Passed (checkNumber L q b) slip → Missed (Eligible (contents L b) q) allocated ⊎ Met (Eligible (contents L b) q) (Beyond (contents L b .settings .direction)) OrFull allocated
-          → find L q b slip .number ≡ 0
-      go p (inl m) = absurd (omega (arith, sym (m .five) ∙ sym (ap (λ (x : Answer). x .number) (through (checkNumber L q b) b slip allocated p)) ∙ e))
-      go p (inr m) = find-sentence L q b slip .some p (m .at) (m .best .holds)
-
 pub allocate-sentence : AllocateSentence
 unfolding allocate
-allocate-sentence L q b slip =
-    (found-searched L q b slip OrFull (allocateAnswer L b (q .size .0)) (allocate-answers L b (q .size .0)), full-found L q b slip)
+allocate-sentence L q b slip = found-searched L q b slip OrFull (allocateAnswer L b (q .size .0)) (allocate-answers L b (q .size .0))
 
 -- ---- next free
 

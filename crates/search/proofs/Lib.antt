@@ -4,3 +4,4 @@ pub mod DemandTwo
 pub mod Eligible
 pub mod Found
 pub mod InBlock
+pub mod Reserving

@@ -14,6 +14,8 @@ use Rattle.regions.specs.Runs.{OneTag}
 use Rattle.regions.specs.Bytes.{number}
 use Rattle.block.specs.declared.Layout.{Layout}
 use Rattle.block.specs.Block.{Contents, contents}
+use Rattle.tables.specs.declared.commands.Verb.the-variants.{Reserve}
+use Rattle.tables.specs.Commands.{Outcome, command, commandOutcome}
 use Rattle.runs.specs.declared.Query.{Query}
 use Rattle.runs.specs.Eligible.{onNode, asks}
 use Rattle.search.specs.Answers.{Answer, checkNumber, nextNumber, find, allocate, nextFree}
@@ -75,11 +77,22 @@ OrFull n = (n ≡ 0) ⊎ (n ≡ 6)
 abbrev pub FindSentence : Type 0
 FindSentence = (L : Layout) (q : Query) (b slip : List ℕ) → LooksEligible L q b slip (λ n. n ≡ 0) (find L q b slip)
 
--- 6 speaks of the address that find would give
 abbrev pub AllocateSentence : Type 0
-AllocateSentence =
-    (L : Layout) (q : Query) (b slip : List ℕ)
-    → LooksEligible L q b slip OrFull (allocate L q b slip) × (allocate L q b slip .number ≡ 6 → find L q b slip .number ≡ 0)
+AllocateSentence = (L : Layout) (q : Query) (b slip : List ℕ) → LooksEligible L q b slip OrFull (allocate L q b slip)
+
+-- what reserve does with the size found at the address that find writes
+abbrev pub reserving : Layout → Query → List ℕ → List ℕ → Outcome
+reserving L q b slip = commandOutcome L (command Reserve (number 8 (find L q b slip .slip)) (q .size .0)) b
+
+-- allocate first looks as find does, and goes on only when there is an address; then it reserves the size found there, so that 6 speaks of that address
+pub record LooksThenReserves (L : Layout) (q : Query) (b slip : List ℕ) : Type 0 where
+  pub refused : (find L q b slip .number ≡ 0 → ⊥) → allocate L q b slip ≡ find L q b slip
+  pub number : find L q b slip .number ≡ 0 → allocate L q b slip .number ≡ reserving L q b slip .number
+  pub block : find L q b slip .number ≡ 0 → allocate L q b slip .block ≡ reserving L q b slip .block
+  pub written : allocate L q b slip .number ≡ 0 → allocate L q b slip .slip ≡ find L q b slip .slip
+
+abbrev pub ReserveSentence : Type 0
+ReserveSentence = (L : Layout) (q : Query) (b slip : List ℕ) → LooksThenReserves L q b slip
 
 abbrev pub NextFreeSentence : Type 0
 NextFreeSentence =

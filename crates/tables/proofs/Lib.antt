@@ -1,4 +1,5 @@
 pub mod Commanding
+pub mod DemandTwo
 pub mod Front
 pub mod Good
 pub mod Printed

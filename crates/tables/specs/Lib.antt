@@ -1,2 +1,3 @@
 pub mod Commands
+pub mod DemandTwo
 pub mod Steps

@@ -1,8 +1,6 @@
 -- Fields of a layout and a header by the kind of table. Assumes nothing.
 use Prim.Native.Nat.{_+_, _*_, _-_}
 use mathlib.Core.Path.{_≡_}
-use Rattle.address.specs.declared.Size.{Size}
-use Rattle.address.specs.declared.CheckedSize.{CheckedSize}
 use Rattle.regions.specs.declared.Kind.{Kind}
 use Rattle.regions.specs.declared.Kind.the-variants.{Memory, Taken}
 use Rattle.block.specs.declared.Layout.{Layout}

@@ -41,7 +41,7 @@ use Rattle.change.specs.declared.inplace.Changed.the-variants.{To, NoRoo
 use Rattle.records.specs.Steps.{endingBy, put, Table, Whole}
 use Rattle.change.specs.Steps.{clearTo, Stored, JoinedBelow, JoinedAbove, Fills, GapAs, Vacant}
 use Rattle.records.proofs.Placing.{further, ending-reach, ending-above, ending-past, place-le}
-use Rattle.records.proofs.Replacing.{take-read, drop-read}
+use Rattle.records.proofs.Placing.{take-read, drop-read}
 use Rattle.change.proofs.Splicing.{splice-full, put-done}
 
 -- ---- is it free

@@ -2,4 +2,3 @@ pub mod Filling
 pub mod Meeting
 pub mod Rebuilding
 pub mod Splicing
-pub mod Trimming

@@ -9,14 +9,14 @@ use lib.Dec.{leb}
 use lib.ListN.{length, take, drop}
 use borrow.Author.Tests.{le-leb, lt-leb, leb-true, leb-false}
 use Rattle.regions.specs.declared.Region.{Region}
-use Rattle.regions.specs.Meaning.{end, at}
+use Rattle.regions.specs.Meaning.{end}
 use Rattle.regions.specs.Bytes.{number, readRegion, readRegions}
 use Rattle.regions.proofs.Records.{read-regions-length, read-regions-rest, read-regions-end}
 use Rattle.regions.proofs.Few.{Ends, Begins}
 use Rattle.regions.proofs.Middle.{Above}
 use Rattle.records.specs.Steps.{endingBy}
 use Rattle.change.specs.Steps.{startingBy}
-use Rattle.records.proofs.Replacing.{drop-read}
+use Rattle.records.proofs.Placing.{drop-read}
 
 -- ---- how many begin at or below an address
 

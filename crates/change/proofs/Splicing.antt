@@ -23,7 +23,7 @@ use Rattle.records.specs.Totals.{tally}
 use Rattle.records.specs.Steps.{put}
 use Rattle.change.specs.Steps.{Stored, storedAnswer, storedBytes}
 use Rattle.records.proofs.Copying.{copied-records}
-use Rattle.records.proofs.Replacing.{take-read, drop-read}
+use Rattle.records.proofs.Placing.{take-read, drop-read}
 
 -- ---- the records met
 

@@ -1,14 +1,13 @@
--- A range of one table changed: the records met, what becomes of them, a gap, what trim leaves. Only inner contracts and proofs cite this module. Assumes nothing.
+-- A range of one table changed: the records met, what becomes of them, a gap. Only inner contracts and proofs cite this module. Assumes nothing.
 use Prim.Native.Nat.{ℕ, suc, _+_, _-_, _/_, _<_, _≤_}
 use mathlib.Core.Path.{_≡_}
 use mathlib.Core.Bool.{Bool, true, cond}
 use mathlib.Core.List.{List, [], _∷_, _++_}
 use mathlib.Core.Logic.{_⊎_}
-use lib.Dec.{leb, ltb}
+use lib.Dec.{leb}
 use lib.ListN.{length, take, drop}
-use Rattle.address.specs.Numbers.{up, down}
 use Rattle.regions.specs.declared.Region.{Region}
-use Rattle.regions.specs.Meaning.{region, end, at, join, shortest, top}
+use Rattle.regions.specs.Meaning.{region, at, join, shortest, top}
 use Rattle.regions.specs.declared.State.the-variants.{Absent}
 use Rattle.regions.specs.Bytes.{readRegions, tableBytes}
 use Rattle.regions.specs.Changes.{change, after}
@@ -26,15 +25,8 @@ use Rattle.change.specs.declared.inplace.Met.{Met}
 use Rattle.change.specs.declared.inplace.Tried.{Tried}
 use Rattle.change.specs.declared.inplace.Tried.the-variants.{Done, More}
 use Rattle.records.specs.Totals.{tally}
-use Rattle.change.specs.declared.trim.Rounded.{Rounded}
-use Rattle.change.specs.declared.trim.Rounded.the-variants.{Left, Nothing}
-use Rattle.records.specs.Steps.{endingBy, put, Whole}
+use Rattle.records.specs.Steps.{endingBy, Whole}
 use Rattle.lists.specs.Steps.{Editable}
-
--- what is left of a record, as a list
-abbrev pub leftOf : Rounded → List Region
-leftOf (Left r) = r ∷ []
-leftOf Nothing = []
 
 -- how many of the first regions begin at or below an address
 unfoldable pub startingBy : ℕ → List Region → ℕ
@@ -69,11 +61,6 @@ storedBytes cap xs t = cond (leb (length xs) cap) (tableBytes cap xs) t
 pub record Stored (t e : List ℕ) (xs : List Region) (a : Changed) : Type 0 where
   pub answer : a ≡ storedAnswer (length t / 24) xs
   pub after : e ≡ storedBytes (length t / 24) xs t
-
--- a table of bytes t that now holds the list xs has the bytes e, and y is answered
-pub record Trimmed (t e : List ℕ) (xs : List Region) (y : Tally) : Type 0 where
-  pub answer : y ≡ tally xs
-  pub after : e ≡ tableBytes (length t / 24) xs
 
 -- a table, a change of it, and the records that its range meets or touches
 pub record Meets (t : List ℕ) (y : Tally) (d : Edit) (m : Met) : Type 0 where

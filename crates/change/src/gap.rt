@@ -6,7 +6,7 @@ use address::Address;
 use address::CheckedAddress;
 use address::Size;
 use lists::Edit;
-use records::moves::replace_one;
+use moves::replace_one;
 use records::table::Tally;
 use records::table::ends_by;
 use records::table::place;

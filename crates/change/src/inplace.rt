@@ -4,7 +4,7 @@ use address::Size;
 use lists::Edit;
 use lists::Pushed;
 use lists::change_list;
-use records::moves::replace;
+use moves::replace;
 use records::table::Tally;
 use records::table::place;
 use records::table::total_of;

@@ -1,4 +1,3 @@
-// A range of one table changed in place, and trim.
+// A range of one table changed in place.
 pub mod gap;
 pub mod inplace;
-pub mod trim;

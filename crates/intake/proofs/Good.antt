@@ -3,15 +3,12 @@ use Prim.Native.Nat.{ℕ}
 use mathlib.Core.Path.{_≡_, refl, ap, _∙_}
 use mathlib.Core.Bool.{Bool, true, false, cond}
 use mathlib.Core.List.{List, [], _∷_, List·Memᴰ, List·Memᴰ·head, List·Memᴰ·tail}
-use mathlib.Core.Logic.{_⊎_, inl, inr}
+use mathlib.Core.Logic.{_⊎_, inl}
 use lib.Dec.{eqb}
 use lib.ListN.{drop}
-use borrow.Author.Tests.{eqb-true, eqb-false}
 use Rattle.address.specs.Numbers.{powerBelow}
-use Rattle.regions.specs.declared.Kind.{Kind}
-use Rattle.regions.specs.declared.Kind.the-variants.{Memory, Taken}
+use Rattle.regions.specs.declared.Kind.the-variants.{Taken}
 use Rattle.block.specs.Block.{current, offset, good}
-use Rattle.tables.specs.declared.commands.Verb.{Verb}
 use Rattle.tables.specs.Commands.{Outcome, outcome, Command, table, legalVerb, commandOutcome, trim}
 use Rattle.tables.proofs.Good.{command-good, command-number, trim-good}
 use Rattle.tables.proofs.Front.{command-front, trim-front}

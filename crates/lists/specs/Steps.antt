@@ -5,7 +5,6 @@ use mathlib.Core.Bool.{cond}
 use mathlib.Core.List.{List}
 use lib.Dec.{leb}
 use lib.ListN.{length}
-use Rattle.address.specs.Numbers.{up}
 use Rattle.regions.specs.declared.Region.{Region}
 use Rattle.regions.specs.Meaning.{at, shortest, top}
 use Rattle.regions.specs.Bytes.{readRegions}

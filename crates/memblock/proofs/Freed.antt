@@ -13,13 +13,11 @@ use Rattle.regions.specs.declared.State.the-variants.{Present}
 use Rattle.regions.specs.Meaning.{at}
 use Rattle.regions.specs.Changes.{change, cut}
 use Rattle.regions.specs.Free.{freeMemory}
-use Rattle.regions.specs.Runs.{OneTag}
 use Rattle.regions.proofs.RoundTrip.{inside-yes}
 use Rattle.block.specs.Block.{current, withList, contents, good}
 use Rattle.tables.specs.declared.commands.Verb.the-variants.{Free}
 use Rattle.tables.specs.Commands.{Command, command}
 use Rattle.runs.specs.declared.Query.{Query}
-use Rattle.runs.specs.Eligible.{asks}
 use Rattle.search.specs.DemandTwo.{freeIn, Eligible}
 use Rattle.memblock.specs.Calls.{outcomeOf}
 use Rattle.memblock.specs.Freed.{FreedSentence}

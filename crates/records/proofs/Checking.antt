@@ -8,11 +8,8 @@ use mathlib.Core.Logic.{_⊎_, inl, inr}
 use native.Mathlib.Nat.{sub-zero, mod-eq-of-lt, mod-eq-sub-mod}
 use lib.ListN.{length, drop}
 use borrow.Author.Tests.{le-leb, lt-leb, not-true, not-false}
-use Rattle.address.specs.declared.Address.{Address}
 use Rattle.address.specs.declared.Size.{Size}
-use Rattle.address.specs.Numbers.{address, size}
-use Rattle.address.specs.declared.CheckedAddress.{CheckedAddress}
-use Rattle.address.specs.declared.CheckedSize.{CheckedSize}
+use Rattle.address.specs.Numbers.{size}
 use Rattle.regions.specs.declared.Region.{Region}
 use Rattle.regions.specs.declared.Kind.{Kind}
 use Rattle.regions.specs.declared.State.{State}

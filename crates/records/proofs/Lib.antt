@@ -1,9 +1,7 @@
 pub mod Checking
 pub mod Copying
 pub mod Halving
-pub mod Moving
 pub mod Placing
-pub mod Replacing
 pub mod Tables
 pub mod Totals
 pub mod Zeros

@@ -1,10 +1,10 @@
 -- Where a range begins among the records: the first records that end at or below an address. Assumes nothing.
-use Prim.Native.Nat.{ℕ, zero, suc, _+_, _*_, _≤_, _<_}
-use mathlib.Core.Path.{_≡_, refl, sym, _∙_}
+use Prim.Native.Nat.{ℕ, zero, suc, _+_, _*_, _-_, _≤_, _<_}
+use mathlib.Core.Path.{_≡_, refl, sym, ap, _∙_}
 use mathlib.Core.Bool.{Bool, true, false, cond}
 use mathlib.Core.List.{List, [], _∷_}
 use native.Mathlib.Omega.{arith}
-use native.Mathlib.Nat.{not-suc-le-zero, mul-suc}
+use native.Mathlib.Nat.{not-suc-le-zero, le-of-suc-le-suc, sub-zero, mul-suc}
 use lib.Dec.{leb}
 use lib.ListN.{length, take, drop}
 use lib.Seq.{drop-drop}
@@ -31,12 +31,28 @@ module _ (s r : Region) (e : r ≡ s) (a : Address) (x : CheckedAddress) (q : x 
   pub look-told : (o : Address) → x ≡ At o → leb (o .0) (a .0) ≡ leb (end s) (a .0)
   look-told o p = rw (address-at (end r) x o q p .0, e)
 
--- ---- a record and the place
+-- ---- parts of a run of records
 
 pub further : (k : ℕ) (l : List ℕ) → drop (24 * k) (drop 24 l) ≡ drop (24 * suc k) l
 further k l =
     let e : 24 + 24 * k ≡ 24 * suc k = omega (arith, mul-suc 24 k) in
     drop-drop (24 * k) 24 l ∙ rw e
+
+pub take-read : (i n : ℕ) (l : List ℕ) → i ≤ n → take i (readRegions n l) ≡ readRegions i l
+unfolding readRegions
+take-read zero n l h = refl
+take-read (suc i) zero l h = absurd (not-suc-le-zero h)
+take-read (suc i) (suc n) l h = ap (λ (x : List Region). readRegion l ∷ x) (take-read i n (drop 24 l) (le-of-suc-le-suc h))
+
+pub drop-read : (i n : ℕ) (l : List ℕ) → i ≤ n → drop i (readRegions n l) ≡ readRegions (n - i) (drop (24 * i) l)
+unfolding readRegions
+drop-read zero n l h = rw sub-zero
+drop-read (suc i) zero l h = absurd (not-suc-le-zero h)
+drop-read (suc i) (suc n) l h =
+    let e : suc n - suc i ≡ n - i = omega arith in
+    drop-read i n (drop 24 l) (le-of-suc-le-suc h) ∙ rw (further i l, e)
+
+-- ---- a record and the place
 
 module _ (a : ℕ) where
   -- a record that ends above the address is not before the place

@@ -5,14 +5,12 @@ use mathlib.Core.Bool.{true, cond}
 use mathlib.Core.List.{List, [], _∷_, _++_}
 use lib.Dec.{leb}
 use lib.ListN.{length, take, drop}
-use Rattle.address.specs.Numbers.{up}
 use Rattle.regions.specs.declared.Region.{Region}
-use Rattle.regions.specs.Meaning.{end, at, shortest, total, top}
+use Rattle.regions.specs.Meaning.{end, at, total, top}
 use Rattle.regions.specs.declared.State.the-variants.{Absent}
 use Rattle.regions.specs.Lists.{rises}
 use Rattle.regions.specs.Bytes.{readRegions}
 use Rattle.records.specs.declared.table.Tally.{Tally}
-use Rattle.records.specs.Totals.{tally}
 use Rattle.records.specs.Checks.{allZeros}
 
 -- how many of the first regions end at or below an address: where a range that begins there begins among them

@@ -1,3 +1,2 @@
 // The records of one table, lent as a part of the block.
-pub mod moves;
 pub mod table;

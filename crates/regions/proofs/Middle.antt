@@ -10,7 +10,7 @@ use Rattle.regions.specs.declared.Tag.{Tag}
 use Rattle.regions.specs.declared.Region.{Region}
 use Rattle.regions.specs.declared.State.{State}
 use Rattle.regions.specs.declared.State.the-variants.{Absent, Present}
-use Rattle.regions.specs.Meaning.{Meaning, region, end, inside, at, join, shortest}
+use Rattle.regions.specs.Meaning.{Meaning, end, inside, at, join, shortest}
 use Rattle.regions.specs.Changes.{after}
 use Rattle.regions.proofs.Rises.{Fits, Rises, ended, next, Canonical, reach, edge}
 use Rattle.regions.proofs.Push.{push-to}

@@ -14,7 +14,7 @@ use borrow.Author.Tests.{le-leb, lt-leb, lt-ltb, le-ltb, eq-eqb, ne-eqb, leb-fal
 use Rattle.address.specs.declared.Address.{Address}
 use Rattle.address.specs.declared.CheckedAddress.{CheckedAddress}
 use Rattle.address.specs.declared.CheckedAddress.the-variants.{At, Outside}
-use Rattle.address.proofs.Tests.{both, le-or-lt, zero-not-one}
+use Rattle.address.proofs.Tests.{le-or-lt, zero-not-one}
 use Rattle.address.proofs.Powers.{power-some}
 use Rattle.regions.specs.declared.Kind.{Kind}
 use Rattle.regions.specs.declared.Kind.the-variants.{Memory, Taken}
@@ -30,7 +30,7 @@ use Rattle.regions.proofs.Records.{read-regions-rest, read-regions-end}
 use Rattle.records.specs.Steps.{Table, endingBy}
 use Rattle.records.proofs.Placing.{ending-above, place-le}
 use Rattle.records.proofs.Tables.{good-table}
-use Rattle.records.proofs.Replacing.{drop-read}
+use Rattle.records.proofs.Placing.{drop-read}
 use Rattle.runs.specs.declared.Query.{Query}
 use Rattle.runs.specs.declared.walk.Bounds.{Bounds}
 use Rattle.runs.specs.declared.fit.Place.the-variants.{Here, Nowhere}

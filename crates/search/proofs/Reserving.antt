@@ -22,7 +22,7 @@ use Rattle.runs.specs.Eligible.{eligible, Gives}
 use Rattle.runs.specs.Places.{hitOf, placeOf}
 use Rattle.search.specs.Search.{window, runsOf, found, foundPlace}
 use Rattle.search.specs.Answers.{Answer, answer, refuse, slipOf, checkNumber, find, findAnswer, allocate, allocateAnswer, reserved}
-use Rattle.search.specs.DemandTwo.{Beyond, LooksThenReserves, ReserveSentence}
+use Rattle.search.specs.DemandTwo.{Beyond, ReserveSentence}
 use Rattle.search.proofs.Answering.{number-ready}
 use Rattle.search.proofs.Allocating.{store-leaves}
 use Rattle.search.proofs.DemandTwo.{slip-first}

@@ -1,15 +1,12 @@
 -- A command answers 6 exactly when its finished list would not fit. Assumes nothing.
-use Prim.Native.Nat.{ℕ, _<_}
 use mathlib.Core.Path.{_≡_, refl}
 use mathlib.Core.Bool.{Bool, true, false}
-use mathlib.Core.List.{List}
 use native.Mathlib.Omega.{arith}
 use lib.Dec.{leb}
 use lib.ListN.{length}
 use borrow.Author.Tests.{lt-leb, leb-false}
-use Rattle.block.specs.declared.Layout.{Layout}
 use Rattle.block.specs.Block.{capacity, withList, blockBytes, contents, good}
-use Rattle.tables.specs.Commands.{unless, doneWith, store, Command, table, legalVerb, commandOutcome}
+use Rattle.tables.specs.Commands.{unless, doneWith, store, table, legalVerb, commandOutcome}
 use Rattle.tables.specs.DemandTwo.{finished, Full, FullSentence}
 
 pub full-sentence : FullSentence

@@ -43,7 +43,8 @@ use Rattle.block.specs.Block.{current, capacity, offset, listOf, withList, head
 use Rattle.records.specs.Totals.{tally}
 use Rattle.block.specs.Checks.{tallyOf, withTally}
 use Rattle.records.specs.Steps.{Table, Whole}
-use Rattle.change.specs.Steps.{AllTagged, Uniform, Vacant, Changeable, Stored, Trimmed, storedAnswer, storedBytes}
+use Rattle.trim.specs.Steps.{Trimmed}
+use Rattle.change.specs.Steps.{AllTagged, Uniform, Vacant, Changeable, Stored, storedAnswer, storedBytes}
 use Rattle.tables.specs.Steps.{Known, storeChanged}
 use Rattle.lists.specs.Steps.{Editable}
 use Rattle.tables.specs.Commands.{Outcome, outcome, store, tag, changeRange}

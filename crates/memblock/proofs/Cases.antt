@@ -56,13 +56,13 @@ record Computed (c : Case) : Type 0 where
   taken : ended (c .calls) freshContents .taken ≡ c .taken
   takenTotal : sizes (c .taken) ≡ c .takenTotal
 
-told-numbers : (ps : List Result) → map (λ (a : Answer). a .number) (map spelled ps) ≡ map (λ (p : Result). p .number) ps
-told-numbers [] = refl
-told-numbers (p ∷ ps) = ap (λ (l : List ℕ). p .number ∷ l) (told-numbers ps)
+spelled-numbers : (ps : List Result) → map (λ (a : Answer). a .number) (map spelled ps) ≡ map (λ (p : Result). p .number) ps
+spelled-numbers [] = refl
+spelled-numbers (p ∷ ps) = ap (λ (l : List ℕ). p .number ∷ l) (spelled-numbers ps)
 
-told-slips : (ps : List Result) → map (λ (a : Answer). a .slip) (map spelled ps) ≡ map (λ (p : Result). p .slip) ps
-told-slips [] = refl
-told-slips (p ∷ ps) = ap (λ (l : List (List ℕ)). p .slip ∷ l) (told-slips ps)
+spelled-slips : (ps : List Result) → map (λ (a : Answer). a .slip) (map spelled ps) ≡ map (λ (p : Result). p .slip) ps
+spelled-slips [] = refl
+spelled-slips (p ∷ ps) = ap (λ (l : List (List ℕ)). p .slip ∷ l) (spelled-slips ps)
 
 computed-holds : (c : Case) → Computed c → Holds c
 computed-holds c p =
@@ -73,8 +73,8 @@ computed-holds c p =
     ap (contents current) (leaves-computed (c .calls) freshContents (p .computable)) ∙ contents-spelled current small-current s sp in
     let t : (k : Kind) → total (at (listOf s k)) top ≡ sizes (listOf s k) = λ k. total-is-sizes (listOf s k) (good-rises k (listOf s k) (lists-ok current s (sp .good) k)) in
     record {
-      numbers = ap (map (λ (x : Answer). x .number)) a ∙ told-numbers (computeAll (c .calls) freshContents) ∙ p .numbers;
-      slips = ap (map (λ (x : Answer). x .slip)) a ∙ told-slips (computeAll (c .calls) freshContents) ∙ p .slips;
+      numbers = ap (map (λ (x : Answer). x .number)) a ∙ spelled-numbers (computeAll (c .calls) freshContents) ∙ p .numbers;
+      slips = ap (map (λ (x : Answer). x .slip)) a ∙ spelled-slips (computeAll (c .calls) freshContents) ∙ p .slips;
       memory = ap (λ (x : Contents). x .memory) e ∙ p .memory;
       memoryTotal = ap (λ (x : Contents). total (at (x .memory)) top) e ∙ t Memory ∙ ap sizes (p .memory) ∙ p .memoryTotal;
       taken = ap (λ (x : Contents). x .taken) e ∙ p .taken;

@@ -11,7 +11,7 @@ use Rattle.regions.specs.Changes.{after}
 use Rattle.regions.specs.Steps.{stretch}
 use Rattle.regions.proofs.Rises.{Rises, ended, next, Canonical}
 use Rattle.regions.proofs.Push.{push-to}
-use Rattle.regions.proofs.RoundTrip.{canonical-shortest, at-shortest, inside-yes, inside-below, inside-past, at-here, at-before, at-past, rises-end, rises-below, push-absent}
+use Rattle.regions.proofs.RoundTrip.{inside-yes, inside-below, inside-past, at-here, at-before, at-past, rises-end, rises-below, push-absent}
 
 -- ---- a change over a range, worked out on a list
 
@@ -70,10 +70,3 @@ pub update-shortest : (k : State → State) (lo hi n : ℕ) (xs : List Region) �
     → update k lo hi xs ≡ shortest (after k lo hi (at xs)) n
 unfolding update shortest
 update-shortest k lo hi n xs w b q = walk-shortest k lo hi (at xs) w q b (λ a i j. refl)
-
-pub update-canonical : (k : State → State) (lo hi n : ℕ) (xs : List Region) → lo ≤ hi → hi ≤ n → Canonical n xs → Canonical n (update k lo hi xs)
-update-canonical k lo hi n xs l m w = rw (update-shortest k lo hi n xs l m w) (canonical-shortest (after k lo hi (at xs)) n)
-
-pub update-at : (k : State → State) (lo hi n : ℕ) (xs : List Region) → lo ≤ hi → hi ≤ n → Canonical n xs
-    → (a : ℕ) → a < n → at (update k lo hi xs) a ≡ after k lo hi (at xs) a
-update-at k lo hi n xs l m w a h = rw (update-shortest k lo hi n xs l m w) (at-shortest (after k lo hi (at xs)) n a h)

@@ -70,7 +70,7 @@ module _ (n : ℕ) (b slip : List ℕ) (a : Answer) where
   through : Passed n slip → asking n b slip a ≡ a
   through p = sym (fine n b slip a (p .of-16) n refl (p .fine))
 
-  module _ (E : ℕ → Type 0) (beyond : ℕ → ℕ → Type 0) (done : ℕ → Type 0) (h : n ≤ 4) (told : Passed n slip → Missed E a ⊎ Met E beyond done a) where
+  module _ (E : ℕ → Type 0) (beyond : ℕ → ℕ → Type 0) (done : ℕ → Type 0) (h : n ≤ 4) (answered : Passed n slip → Missed E a ⊎ Met E beyond done a) where
     searched : Searched (Passed n slip) E beyond done (asking n b slip a)
     searched = record { five = five; none = none-given; some = some-given; given = given }
       where
@@ -78,28 +78,28 @@ module _ (n : ℕ) (b slip : List ℕ) (a : Answer) where
         is p = ap (λ (x : Answer). x .number) (through p)
 
         five : asking n b slip a .number ≡ 5 → Passed n slip × ((x : ℕ) → E x → ⊥)
-        five e = let p = passed h 5 (inr (omega arith, omega arith)) e in (p, go p (told p))
+        five e = let p = passed h 5 (inr (omega arith, omega arith)) e in (p, go p (answered p))
           where
             go : Passed n slip → Missed E a ⊎ Met E beyond done a → (x : ℕ) → E x → ⊥
             go p (inl m) = m .nothing
             go p (inr m) = absurd (m .other (sym (is p) ∙ e))
 
         none-given : Passed n slip → ((x : ℕ) → E x → ⊥) → asking n b slip a .number ≡ 5
-        none-given p f = go (told p)
+        none-given p f = go (answered p)
           where
             go : Missed E a ⊎ Met E beyond done a → asking n b slip a .number ≡ 5
             go (inl m) = is p ∙ m .five
             go (inr m) = absurd (f (m .at) (m .best .holds))
 
         some-given : Passed n slip → (x : ℕ) → E x → done (asking n b slip a .number)
-        some-given p x e = go (told p)
+        some-given p x e = go (answered p)
           where
             go : Missed E a ⊎ Met E beyond done a → done (asking n b slip a .number)
             go (inl m) = absurd (m .nothing x e)
             go (inr m) = subst done (sym (is p)) (m .so)
 
         given : asking n b slip a .number ≡ 0 → Best E beyond (number 8 (asking n b slip a .slip))
-        given e = let p = passed h 0 (inl refl) e in go p (told p)
+        given e = let p = passed h 0 (inl refl) e in go p (answered p)
           where
             go : Passed n slip → Missed E a ⊎ Met E beyond done a → Best E beyond (number 8 (asking n b slip a .slip))
             go p (inl m) = absurd (omega (arith, sym (m .five) ∙ sym (is p) ∙ e))
@@ -122,10 +122,10 @@ module _ (E : ℕ → Type 0) (test : ℕ → Bool) (passes : (x : ℕ) → test
   fails : (x : ℕ) → E x → (x < top → test x ≡ false) → ⊥
   fails x e f = clash (test x) (holds x e .0) (f (holds x e .1))
 
-  told : (beyond : ℕ → ℕ → Type 0) (done : ℕ → Type 0) (answers : Place → Answer) → Answers done answers → (w : ℕ → Run) (o : Option ℕ) → Gives test beyond top o
+  answered : (beyond : ℕ → ℕ → Type 0) (done : ℕ → Type 0) (answers : Place → Answer) → Answers done answers → (w : ℕ → Run) (o : Option ℕ) → Gives test beyond top o
       → Missed E (answers (placeOf (hitOf w o))) ⊎ Met E beyond done (answers (placeOf (hitOf w o)))
-  told beyond done answers k w none g = inl (record { five = k .nowhere; nothing = λ x e. fails x e (g x) })
-  told beyond done answers k w (some x) g =
+  answered beyond done answers k w none g = inl (record { five = k .nowhere; nothing = λ x e. fails x e (g x) })
+  answered beyond done answers k w (some x) g =
       let d = k .here (record { 0 = x }) (w x) in
       let b : Best E beyond x = record { holds = passes x (g .0); none-beyond = λ y e m. fails y e (λ l. g .1 .1 y l m) } in
       inr (record { at = x; best = b; so = d; other = λ e. k .other (subst done e d); named = k .first (record { 0 = x }) (w x) (g .1 .0) })
@@ -146,22 +146,22 @@ check-low L q b = go (good L b) (nodeKnown (q .node)) (powerOfTwo (q .align .0))
     go true true true false = omega arith
 
 module _ (L : Layout) (q : Query) (b slip : List ℕ) (done : ℕ → Type 0) (answers : Place → Answer) (k : Answers done answers) where
-  found-told : Passed (checkNumber L q b) slip
+  found-answered : Passed (checkNumber L q b) slip
       → Missed (Eligible (contents L b) q) (answers (foundPlace (contents L b) q))
       ⊎ Met (Eligible (contents L b) q) (Beyond (contents L b .settings .direction)) done (answers (foundPlace (contents L b) q))
   unfolding foundPlace
-  found-told p =
+  found-answered p =
       let s = contents L b in
       let r = number-ready L b q (p .fine) in
       let w = memory-rises L b (r .0 .0) in
-      told (Eligible s q) (eligible (window (s .settings .limit .0) q) (runsOf s)) (passes-eligible s q (r .1))
+      answered (Eligible s q) (eligible (window (s .settings .limit .0) q) (runsOf s)) (passes-eligible s q (r .1))
       (λ x e. (eligible-passes s q (r .1) x w e, omega (arith, eligible-ends s q (r .1) x w e, r .1))) (Beyond (s .settings .direction)) done answers k (runAt (runsOf s)) (found s q)
       (found-gives s q)
 
   found-searched : LooksEligible L q b slip done (asking (checkNumber L q b) b slip (answers (foundPlace (contents L b) q)))
   found-searched =
       searched (checkNumber L q b) b slip (answers (foundPlace (contents L b) q)) (Eligible (contents L b) q) (Beyond (contents L b .settings .direction)) done
-      (check-low L q b) found-told
+      (check-low L q b) found-answered
 
 find-answers : (b : List ℕ) (size : ℕ) → Answers (λ n. n ≡ 0) (findAnswer b size)
 find-answers b size = record { nowhere = refl; here = λ a r. refl; other = λ e. omega arith; first = λ a r l e. slip-first (a .0) (a .0 + size) l }
@@ -227,5 +227,5 @@ next-free-sentence L p node b slip =
     let k : Answers (λ n. n ≡ 0) (nextFreeAnswer b) = record { nowhere = refl; here = λ x r. refl; other = λ e. omega arith; first = λ x r l e. slip-first (x .0) (r .end .0) l } in
     searched (nextNumber L node b) b slip a (FreeFrom s p node) (λ y x. y < x) (λ n. n ≡ 0) (next-low (good L b) (nodeKnown node))
     (λ d. let w = memory-rises L b (next-checked (good L b) (nodeKnown node) (d .fine)) in
-    told (FreeFrom s p node) (freeFrom p node (runsOf s)) (passes-free s p node) (λ x e. (free-passes s p node x w e, free-ends s p node x w e)) (λ y x. y < x) (λ n. n ≡ 0)
+    answered (FreeFrom s p node) (freeFrom p node (runsOf s)) (passes-free s p node) (λ x e. (free-passes s p node x w e, free-ends s p node x w e)) (λ y x. y < x) (λ n. n ≡ 0)
     (nextFreeAnswer b) k (runAt (runsOf s)) (lowestFree s p node) (lowest-gives (freeFrom p node (runsOf s)) top))

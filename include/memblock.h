@@ -29,12 +29,12 @@ extern "C" {
 
 /* Numbers answered. Checked in the order 8, 1, 10, 2, 3, 4, 7, 5, 6; the first that holds is given. */
 #define MEMBLOCK_DONE 0
-#define MEMBLOCK_BAD_BLOCK 1     /* the block is not good (fresh: not MEMBLOCK_BLOCK_LENGTH bytes) */
+#define MEMBLOCK_BAD_BLOCK 1     /* the block is not good (fresh, convert: not MEMBLOCK_BLOCK_LENGTH bytes; convert: or old is not good) */
 #define MEMBLOCK_BAD_TAG 2       /* add: flags not 0 or 4, or node above 63; searches: node above 63 and not any */
 #define MEMBLOCK_BAD_ALIGNMENT 3 /* not a power of two */
 #define MEMBLOCK_SIZE_ZERO 4     /* find, allocate */
 #define MEMBLOCK_NO_ADDRESS 5    /* no eligible address below end and limit; next free: no free address */
-#define MEMBLOCK_TABLE_FULL 6    /* the changed table's finished shortest list has more than MEMBLOCK_CAPACITY records */
+#define MEMBLOCK_TABLE_FULL 6    /* the changed table's finished shortest list has more records than that table's capacity */
 #define MEMBLOCK_BAD_DIRECTION 7 /* set: above 1 */
 #define MEMBLOCK_BAD_SLIP 8      /* the slip is not MEMBLOCK_SLIP_LENGTH bytes */
 #define MEMBLOCK_BAD_REPORT 10   /* the report is not whole entries, or more than MEMBLOCK_REPORT_ENTRIES */
@@ -52,7 +52,8 @@ extern "C" {
 #define MEMBLOCK_TOP UINT64_C(0xFFFFFFFFFFFFFFFF)      /* ranges of table commands are cut here: the last address is in no table */
 #define MEMBLOCK_NO_LIMIT UINT64_C(0xFFFFFFFFFFFFFFFF) /* the limit of a fresh block */
 #define MEMBLOCK_LOWEST_START 4096                     /* find and allocate start no lower */
-#define MEMBLOCK_CAPACITY 128                          /* records, in each table */
+#define MEMBLOCK_MEMORY_CAPACITY 128                   /* records */
+#define MEMBLOCK_TAKEN_CAPACITY 512
 
 /* The slip: two little-endian u64. */
 #define MEMBLOCK_SLIP_LENGTH 16
@@ -70,9 +71,9 @@ extern "C" {
 
 /* The block, little-endian. Read it freely; whatever writes it besides these functions must leave a good block, or the next call
  * refuses it with 1. */
-#define MEMBLOCK_BLOCK_LENGTH 6224
+#define MEMBLOCK_BLOCK_LENGTH 15440
 #define MEMBLOCK_EDITION_AT 0 /* u32 */
-#define MEMBLOCK_EDITION 1
+#define MEMBLOCK_EDITION 2
 #define MEMBLOCK_BODIES_AT 4 /* u32 */
 #define MEMBLOCK_BODIES 2
 #define MEMBLOCK_MEMORY_ENTRY_AT 8
@@ -81,8 +82,13 @@ extern "C" {
 #define MEMBLOCK_DIRECTION_AT 48    /* u32, then u32 zero */
 #define MEMBLOCK_MEMORY_TOTAL_AT 56 /* u64: how many addresses are present */
 #define MEMBLOCK_TAKEN_TOTAL_AT 64  /* u64: how many are taken; then u64 zero */
-#define MEMBLOCK_MEMORY_AT 80       /* MEMBLOCK_CAPACITY records */
-#define MEMBLOCK_TAKEN_AT 3152      /* MEMBLOCK_CAPACITY records */
+#define MEMBLOCK_MEMORY_AT 80       /* MEMBLOCK_MEMORY_CAPACITY records */
+#define MEMBLOCK_TAKEN_AT 3152      /* MEMBLOCK_TAKEN_CAPACITY records */
+
+/* The block of edition 1, which only memblock_convert takes: the same offsets, 128 records in each table. */
+#define MEMBLOCK_EDITION_1 1
+#define MEMBLOCK_EDITION_1_LENGTH 6224
+#define MEMBLOCK_EDITION_1_TAKEN_CAPACITY 128
 
 /* A table's entry: four u32, offsets within it. */
 #define MEMBLOCK_ENTRY_LENGTH 16
@@ -116,11 +122,16 @@ extern "C" {
 #define MEMBLOCK_STACK_NEXT_FREE 384
 #define MEMBLOCK_STACK_FIND 448
 #define MEMBLOCK_STACK_ALLOCATE 512
-#define MEMBLOCK_STACK_INTAKE_E820 6848
-#define MEMBLOCK_STACK 6848 /* the most of these */
+#define MEMBLOCK_STACK_INTAKE_E820 6912
+#define MEMBLOCK_STACK_CONVERT 320
+#define MEMBLOCK_STACK 6912 /* the most of these */
 
 /* Writes a fresh block over any MEMBLOCK_BLOCK_LENGTH bytes: both tables empty, no limit, top-down. Answers 0 or 1. */
 uint32_t memblock_fresh(uint8_t *block, size_t length);
+
+/* Writes what a good edition 1 block says over any MEMBLOCK_BLOCK_LENGTH bytes: records, limit and direction as they are there. Good is
+ * as it was then: MEMBLOCK_EDITION_1_LENGTH bytes, flags 0 or 4. The two buffers share no byte, and old is not written. Answers 0 or 1. */
+uint32_t memblock_convert(const uint8_t *old, size_t old_length, uint8_t *block, size_t length);
 
 /* Stores a limit and a direction. Find and allocate give no range that ends above the limit, so none at all where it is
  * MEMBLOCK_LOWEST_START or lower; next free takes no notice of it. Answers 0, 1 or 7. */

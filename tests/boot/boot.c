@@ -2,7 +2,8 @@
  * refusal.
  *
  * Writes a line for each call, with its numbers, the number answered, a sum over the block's bytes and the slip, or a sum over the
- * report's bytes; at the end both tables. tests/transcript replays the lines on the second program. Runs freestanding and hosted. */
+ * bytes of the report or of the old block; at the end both tables. tests/transcript replays the lines on the second program. Runs
+ * freestanding and hosted. */
 #include "boot.h"
 #include "memblock.h"
 
@@ -12,6 +13,7 @@
 #define PAGE KIB(4)
 #define ANY MEMBLOCK_ANY_NODE
 #define LENGTH MEMBLOCK_BLOCK_LENGTH
+#define OLD_LENGTH MEMBLOCK_EDITION_1_LENGTH
 
 #define GUARD 8
 #define FILL 0xA5
@@ -28,6 +30,7 @@ struct lent {
 
 static struct lent block = {"block", {0}};
 static struct lent mirror = {"mirror", {0}};
+static struct lent old = {"old", {0}};
 static uint8_t slip[MEMBLOCK_SLIP_LENGTH + GUARD];
 
 /* Room for one entry too many. */
@@ -257,6 +260,20 @@ static uint32_t intake(struct lent *lent, size_t length)
     return number;
 }
 
+/* The first bytes of the old block as it stands. */
+static uint32_t convert(size_t old_length, struct lent *lent, size_t length)
+{
+    begin("convert", &old, old_length);
+    text(", ");
+    text(lent->name);
+    named(", ", length);
+    uint32_t number = memblock_convert(old.bytes, old_length, lent->bytes, length);
+    answered(lent, number);
+    named(" old ", sum(old.bytes, sizeof old.bytes));
+    text("\n");
+    return number;
+}
+
 /* Writes by boot code itself, outside the functions. */
 
 static void fill_block(struct lent *lent)
@@ -276,6 +293,18 @@ static void poke(struct lent *lent, size_t at, uint8_t byte)
     text(lent->name);
     named(" ", at);
     named(" ", byte);
+    text("\n");
+}
+
+/* The old block says what the block does, in edition 1. */
+static void make_old(const struct lent *lent)
+{
+    for (size_t i = 0; i < OLD_LENGTH; i++)
+        old.bytes[i] = lent->bytes[i];
+    put_number(old.bytes, MEMBLOCK_EDITION_AT, 4, MEMBLOCK_EDITION_1);
+    put_number(old.bytes, MEMBLOCK_TAKEN_ENTRY_AT + MEMBLOCK_ENTRY_CAPACITY_AT, 4, MEMBLOCK_EDITION_1_TAKEN_CAPACITY);
+    text("edition 1 ");
+    text(lent->name);
     text("\n");
 }
 
@@ -372,16 +401,41 @@ static void take_map(struct lent *lent, void (*take)(struct lent *lent, int back
     RESERVE(lent, 0xA0000, 0x60000); /* the legacy area below 1 MiB */
 }
 
-/* The machine's report in the other order gives the same bytes, as one report and entry by entry. */
-static void same_backwards(void (*take)(struct lent *lent, int backwards))
+/* Whether the two blocks are equal. */
+static void compare(void)
 {
     int same = 1;
-    take_map(&mirror, take, 1);
     for (size_t i = 0; i < LENGTH; i++)
         same = same && block.bytes[i] == mirror.bytes[i];
     text("same block mirror ");
     hex((uint64_t)same);
     text("\n");
+}
+
+/* The machine's report in the other order gives the same bytes, as one report and entry by entry. */
+static void same_backwards(void (*take)(struct lent *lent, int backwards))
+{
+    take_map(&mirror, take, 1);
+    compare();
+}
+
+/* A block as an earlier loader left it, in edition 1: no function takes it but convert, which makes the same block of it. */
+static void converted(void)
+{
+    fill_block(&mirror);
+    fill_block(&old);
+    convert(OLD_LENGTH, &mirror, LENGTH);
+    make_old(&block);
+    fresh(&old, OLD_LENGTH);
+    RESERVE(&old, 0, PAGE);
+    convert(OLD_LENGTH - 1, &mirror, LENGTH);
+    convert(LENGTH, &mirror, LENGTH);
+    convert(OLD_LENGTH, &mirror, LENGTH - 1);
+    convert(OLD_LENGTH, &mirror, OLD_LENGTH);
+    convert(OLD_LENGTH, &mirror, LENGTH);
+    compare();
+    poke(&old, OLD_LENGTH - 1, 1);
+    convert(OLD_LENGTH, &mirror, LENGTH);
 }
 
 /* The top 64 KiB below 4 GiB go to the firmware: no-map; then half of it comes back. */
@@ -515,7 +569,7 @@ static void full_taken(struct lent *lent)
 {
     uint64_t base = FAR_TAKEN;
     uint64_t count = 0;
-    while (count <= MEMBLOCK_CAPACITY && RESERVE(lent, base + count * 2 * PAGE, PAGE) == MEMBLOCK_DONE)
+    while (count <= MEMBLOCK_TAKEN_CAPACITY && RESERVE(lent, base + count * 2 * PAGE, PAGE) == MEMBLOCK_DONE)
         count++;
     if (count < 2)
         return;
@@ -534,7 +588,7 @@ static void full_memory(struct lent *lent)
 {
     uint64_t base = FAR_MEMORY;
     uint64_t count = 0;
-    while (count <= MEMBLOCK_CAPACITY &&
+    while (count <= MEMBLOCK_MEMORY_CAPACITY &&
            add(lent, base + count * PAGE, PAGE, count % 3 == 0 ? MEMBLOCK_NO_MAP : 0, (uint32_t)(count % MEMBLOCK_NODES)) ==
                MEMBLOCK_DONE)
         count++;
@@ -556,7 +610,7 @@ static void full_memory(struct lent *lent)
     set(lent, GIB(4), MEMBLOCK_BOTTOM_UP);
     free_runs(lent, 2);
     trim(lent, 2 * PAGE);
-    REMOVE(lent, base, MEMBLOCK_CAPACITY * 2 * PAGE);
+    REMOVE(lent, base, MEMBLOCK_MEMORY_CAPACITY * 2 * PAGE);
 }
 
 /* Memory of another node where there was none; what was there keeps its tag. Taken addresses that are no memory stay taken. */
@@ -585,10 +639,10 @@ static void at_the_top(struct lent *lent)
     REMOVE(lent, UINT64_C(0) - PAGE, MEMBLOCK_TOP);
 }
 
-static void table(const struct lent *lent, const char *name, size_t entry_at, size_t at)
+static void table(const struct lent *lent, const char *name, size_t entry_at, size_t at, uint64_t most)
 {
     uint64_t count = number_at(lent->bytes, entry_at + MEMBLOCK_ENTRY_COUNT_AT, 4);
-    for (uint64_t i = 0; i < count && i < MEMBLOCK_CAPACITY; i++, at += MEMBLOCK_RECORD_LENGTH) {
+    for (uint64_t i = 0; i < count && i < most; i++, at += MEMBLOCK_RECORD_LENGTH) {
         text(name);
         named(" base ", number_at(lent->bytes, at + MEMBLOCK_RECORD_BASE_AT, 8));
         named(" size ", number_at(lent->bytes, at + MEMBLOCK_RECORD_SIZE_AT, 8));
@@ -603,8 +657,8 @@ static void tables(const struct lent *lent)
     text("tables ");
     text(lent->name);
     text("\n");
-    table(lent, "memory", MEMBLOCK_MEMORY_ENTRY_AT, MEMBLOCK_MEMORY_AT);
-    table(lent, "taken", MEMBLOCK_TAKEN_ENTRY_AT, MEMBLOCK_TAKEN_AT);
+    table(lent, "memory", MEMBLOCK_MEMORY_ENTRY_AT, MEMBLOCK_MEMORY_AT, MEMBLOCK_MEMORY_CAPACITY);
+    table(lent, "taken", MEMBLOCK_TAKEN_ENTRY_AT, MEMBLOCK_TAKEN_AT, MEMBLOCK_TAKEN_CAPACITY);
     named("totals memory ", number_at(lent->bytes, MEMBLOCK_MEMORY_TOTAL_AT, 8));
     named(" taken ", number_at(lent->bytes, MEMBLOCK_TAKEN_TOTAL_AT, 8));
     text("\n");
@@ -641,6 +695,7 @@ int boot(const struct machine *runs_on)
     take_map(&block, take_report, 0);
     same_backwards(take_entries);
     same_backwards(take_report);
+    converted();
     firmware();
     allocations();
     free_runs(&block, ANY);

@@ -2,14 +2,15 @@
  *
  * Each call runs on a painted stack of its own; the deepest byte that lost its paint says how much was used, bytes of the red zone
  * too. Twice with different paint, so that a byte written with the paint's own value is seen. The blocks have tables of several
- * fills up to full, with ranges on, beside and across their records; some blocks, slips and reports are bad. Fails when a function needs
- * more than memblock.h says. */
+ * fills up to full, with ranges on, beside and across their records; some blocks, slips, reports and old blocks are bad. Fails when a
+ * function needs more than memblock.h says. */
 #include "memblock.h"
 
 #include <stdio.h>
 #include <string.h>
 
 #define STACK 32768
+#define OLD_LENGTH MEMBLOCK_EDITION_1_LENGTH
 #define MOST_ARGUMENTS 9
 #define IN_REGISTERS 6
 #define TURNS 300
@@ -41,7 +42,7 @@ __asm__(".text\n"
         "    popq %rbp\n"
         "    ret\n");
 
-enum numbers { NONE, LIMIT, RANGE_TAG, RANGE, ALIGNMENT, FROM, SEARCH, REPORT };
+enum numbers { NONE, LIMIT, RANGE_TAG, RANGE, ALIGNMENT, FROM, SEARCH, REPORT, OLD };
 
 static struct function {
     const char *name;
@@ -64,10 +65,12 @@ static struct function {
     {"find", (void (*)(void))memblock_find, SEARCH, MEMBLOCK_STACK_FIND, 0, 0, 0},
     {"allocate", (void (*)(void))memblock_allocate, SEARCH, MEMBLOCK_STACK_ALLOCATE, 0, 0, 0},
     {"intake_e820", (void (*)(void))memblock_intake_e820, REPORT, MEMBLOCK_STACK_INTAKE_E820, 0, 0, 0},
+    {"convert", (void (*)(void))memblock_convert, OLD, MEMBLOCK_STACK_CONVERT, 0, 0, 0},
 };
 
 static _Alignas(16) uint8_t stack[STACK];
 static uint8_t before[MEMBLOCK_BLOCK_LENGTH];
+static uint8_t old[OLD_LENGTH];
 static uint8_t block[MEMBLOCK_BLOCK_LENGTH];
 static uint8_t slip[MEMBLOCK_SLIP_LENGTH];
 static uint8_t report[(MEMBLOCK_REPORT_ENTRIES + 1) * MEMBLOCK_REPORT_ENTRY_LENGTH];
@@ -100,6 +103,15 @@ static void fill_tables(unsigned memory, unsigned taken, uint32_t direction)
         memblock_reserve(before, sizeof before, 0x2000 * (uint64_t)i + 0x1100, 0x100);
 }
 
+/* The block as an edition 1 block: good if it is and its taken table fits. */
+static void fill_old(void)
+{
+    static const uint32_t edition = MEMBLOCK_EDITION_1, capacity = MEMBLOCK_EDITION_1_TAKEN_CAPACITY;
+    memcpy(old, before, sizeof old);
+    memcpy(old + MEMBLOCK_EDITION_AT, &edition, sizeof edition);
+    memcpy(old + MEMBLOCK_TAKEN_ENTRY_AT + MEMBLOCK_ENTRY_CAPACITY_AT, &capacity, sizeof capacity);
+}
+
 static uint64_t address(void)
 {
     switch (below(8)) {
@@ -110,7 +122,7 @@ static uint64_t address(void)
     case 2:
         return any();
     default:
-        return below(130) * 0x2000 + below(0x20) * 0x100 + below(2);
+        return below(below(2) ? MEMBLOCK_MEMORY_CAPACITY + 2 : MEMBLOCK_TAKEN_CAPACITY + 2) * 0x2000 + below(0x20) * 0x100 + below(2);
     }
 }
 
@@ -184,6 +196,13 @@ static size_t choose(enum numbers numbers, uint64_t *arguments)
     case ALIGNMENT:
         arguments[n++] = alignment();
         return n;
+    case OLD:
+        arguments[n++] = arguments[0];
+        arguments[n++] = arguments[1];
+        arguments[0] = (uint64_t)(uintptr_t)old;
+        arguments[1] = sizeof old - (below(50) == 0);
+        fill_old();
+        return n;
     case REPORT:
         arguments[n++] = (uint64_t)(uintptr_t)report;
         arguments[n++] = choose_report();
@@ -228,15 +247,15 @@ static void measure(struct function *function)
 
 int main(void)
 {
-    static const unsigned fills[] = {0, 1, 60, 127, 128};
-    size_t kinds = sizeof fills / sizeof fills[0];
+    static const unsigned memory[] = {0, 1, 60, MEMBLOCK_MEMORY_CAPACITY - 1, MEMBLOCK_MEMORY_CAPACITY};
+    static const unsigned taken[] = {0, 1, 60, 128, 300, MEMBLOCK_TAKEN_CAPACITY - 1, MEMBLOCK_TAKEN_CAPACITY};
     size_t count = sizeof functions / sizeof functions[0];
     int wrong = 0;
-    for (size_t m = 0; m < kinds; m++)
-        for (size_t t = 0; t < kinds; t++)
+    for (size_t m = 0; m < sizeof memory / sizeof memory[0]; m++)
+        for (size_t t = 0; t < sizeof taken / sizeof taken[0]; t++)
             for (unsigned turn = 0; turn < TURNS; turn++) {
                 if (turn % 50 == 0)
-                    fill_tables(fills[m], fills[t], turn / 50 % 2);
+                    fill_tables(memory[m], taken[t], turn / 50 % 2);
                 if (turn % 50 == 49)
                     before[below(sizeof before)] ^= 1; /* most such blocks are bad */
                 for (size_t i = 0; i < count; i++)

@@ -8,7 +8,7 @@
 use std::path::{Path, PathBuf};
 use std::process::Command;
 
-const FUNCTIONS: [&str; 13] = [
+const FUNCTIONS: [&str; 14] = [
     "memblock_fresh",
     "memblock_set",
     "memblock_add",
@@ -22,6 +22,7 @@ const FUNCTIONS: [&str; 13] = [
     "memblock_find",
     "memblock_allocate",
     "memblock_intake_e820",
+    "memblock_convert",
 ];
 
 fn main() {

@@ -13,10 +13,11 @@
  *   end. No step knows the place before it has looked at first - 1 and first: up to there every look counts, behind it all but those at
  *   first - 1 to stop. A halving search ends just there, so that its looks are counted exactly.
  *
- * They may be at most as many as the number of records has binary digits, 8 at 128, and at the full table that many must be met. Tried
- * for every command on a range, at every fill, for ranges before, between, behind, inside, touching and over the records. Then the
- * count itself is tried, with steps that count their own looks: one that halves, and, as must be seen as too many, one that cuts off a
- * quarter at each look and one that goes from record to record. */
+ * They may be at most as many as the number of records has binary digits, 8 at 128 and 10 at 512, and at the full table that many must
+ * be met. Tried for every command on a range, for ranges before, between, behind, inside, touching and over the records, at the fills 0
+ * to 16, each power of two with its neighbours, and the last two; in the full table at each record, with allocate at those of the same
+ * numbers. Then the count itself is tried, with steps that count their own looks: one that halves, and, as must be seen as too many,
+ * one that cuts off a quarter at each look and one that goes from record to record. */
 #define _GNU_SOURCE
 #include "memblock.h"
 
@@ -33,8 +34,8 @@
 #pragma GCC optimize("no-tree-loop-distribute-patterns")
 #endif
 
-#define MEMORY_CAPACITY MEMBLOCK_CAPACITY
-#define TAKEN_CAPACITY MEMBLOCK_CAPACITY
+#define MEMORY_CAPACITY MEMBLOCK_MEMORY_CAPACITY
+#define TAKEN_CAPACITY MEMBLOCK_TAKEN_CAPACITY
 #define RECORD MEMBLOCK_RECORD_LENGTH
 #define PAGE 4096
 #define PAGES(bytes) (((bytes) + PAGE - 1) / PAGE)
@@ -258,6 +259,13 @@ static size_t digits(size_t n)
     return d;
 }
 
+/* Whether a fill, or a record, is tried of those up to the last: 0 to 16, a power of two or beside one, the last two. */
+static int is_tried(size_t n, size_t last)
+{
+    size_t power = (size_t)1 << digits(n) >> 1;
+    return n <= 16 || n <= power + 1 || n + 1 >= 2 * power || n + 1 >= last;
+}
+
 static size_t calls;
 
 /* Notes the looks of one call on a copy of `saved`. */
@@ -364,6 +372,8 @@ static void try_step(size_t cut, const uint8_t *saved, int too_many)
     static const struct tried steps = {"a step", step, set, MEMBLOCK_TAKEN_AT, TAKEN_CAPACITY, 1};
     part = cut;
     for (size_t record = 0; record <= records; record++) {
+        if (!is_tried(record, records))
+            continue;
         size_t count = looks_for_place(&steps, saved, ORIGIN + STEP * record, 1);
         if (count != own_looks)
             end_with("looks: a step's own count is another\n");
@@ -385,6 +395,8 @@ int main(void)
     for (const struct tried *c = commands; c < commands + COMMANDS; c++) {
         watched = PAGE * PAGES(RECORD * c->capacity);
         for (records = 0; records <= c->capacity; records++) {
+            if (!is_tried(records, c->capacity))
+                continue;
             fill(c, saved);
             look_around(c, saved, 0);
             look_around(c, saved, records / 2);
@@ -394,7 +406,8 @@ int main(void)
         fill(c, saved);
         most = 0;
         for (size_t record = 0; record <= records; record++)
-            look_around(c, saved, record);
+            if (c->before == set || is_tried(record, records)) /* find reads many records */
+                look_around(c, saved, record);
         printf("looks: %s: at most %zu of %zu records\n", c->name, most, c->capacity);
         if (most != digits(records))
             end_with("looks: the most is not reached\n");
@@ -402,7 +415,7 @@ int main(void)
     try_step(2, saved, 0);
     try_step(4, saved, 1);
     try_step(2 * TAKEN_CAPACITY, saved, 1);
-    printf("looks: %zu calls at every fill, %zu accesses seen; a step that cuts off a quarter and one from record to record refused\n",
+    printf("looks: %zu calls at chosen fills, %zu accesses seen; a step that cuts off a quarter and one from record to record refused\n",
            calls, (size_t)accesses);
     return 0;
 }

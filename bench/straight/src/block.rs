@@ -3,11 +3,17 @@
 use crate::record::{read_u32, read_u64, write_u32, write_u64, Record, Tag, PLAIN, RECORD};
 use crate::{DONE, TABLE_FULL};
 
-pub const LENGTH: usize = 6224;
+pub const LENGTH: usize = HEADER + (MEMORY + TAKEN) * RECORD;
 pub const SLIP: usize = 16;
-const CAPACITY: usize = 128;
-const TABLE: usize = CAPACITY * RECORD;
-const ZEROS: [u8; TABLE] = [0; TABLE];
+const EDITION: u32 = 2;
+const HEADER: usize = 80;
+/// The most records of memory.
+const MEMORY: usize = 128;
+/// The most taken records.
+pub const TAKEN: usize = 512;
+/// The header and the memory table: all that an intake may change.
+const FRONT: usize = HEADER + MEMORY * RECORD;
+const ZEROS: [u8; TAKEN * RECORD] = [0; TAKEN * RECORD];
 
 #[derive(Clone, Copy, PartialEq, Eq)]
 pub enum Which {
@@ -39,9 +45,26 @@ impl Which {
 
     fn offset(self) -> usize {
         match self {
-            Which::Memory => 80,
-            Which::Taken => 80 + TABLE,
+            Which::Memory => HEADER,
+            Which::Taken => FRONT,
         }
+    }
+
+    /// The most records.
+    fn capacity(self) -> usize {
+        match self {
+            Which::Memory => MEMORY,
+            Which::Taken => TAKEN,
+        }
+    }
+
+    /// All bytes of the table.
+    fn bytes(self, block: &[u8]) -> &[u8] {
+        &block[self.offset()..][..self.capacity() * RECORD]
+    }
+
+    fn bytes_mut(self, block: &mut [u8]) -> &mut [u8] {
+        &mut block[self.offset()..][..self.capacity() * RECORD]
     }
 
     fn allows(self, tag: Tag) -> bool {
@@ -54,13 +77,13 @@ impl Which {
 
 pub fn write_fresh(bytes: &mut [u8]) {
     bytes.fill(0);
-    write_u32(bytes, 0, 1);
+    write_u32(bytes, 0, EDITION);
     write_u32(bytes, 4, 2);
     for which in [Which::Memory, Which::Taken] {
         let entry = which.entry();
         write_u32(bytes, entry, which.kind());
         write_u32(bytes, entry + 4, which.offset() as u32);
-        write_u32(bytes, entry + 12, CAPACITY as u32);
+        write_u32(bytes, entry + 12, which.capacity() as u32);
     }
     write_u64(bytes, 40, u64::MAX);
 }
@@ -73,7 +96,7 @@ impl<B: AsRef<[u8]>> Block<B> {
     pub fn check(bytes: B) -> Option<Block<B>> {
         let block = bytes.as_ref();
         let good = block.len() == LENGTH
-            && read_u32(block, 0) == 1
+            && read_u32(block, 0) == EDITION
             && read_u32(block, 4) == 2
             && read_u32(block, 48) <= 1
             && read_u32(block, 52) == 0
@@ -162,12 +185,12 @@ impl<B: AsRef<[u8]> + AsMut<[u8]>> Block<B> {
 
         let count = self.count(which);
         let new_count = count - met + new.len();
-        if new_count > CAPACITY {
+        if new_count > which.capacity() {
             return TABLE_FULL;
         }
         let new_size: u64 = new.iter().map(|record| record.size).sum();
         let total = self.total(which) - old_size + new_size;
-        let table = &mut self.bytes_mut()[which.offset()..][..TABLE];
+        let table = which.bytes_mut(self.bytes_mut());
         table.copy_within(
             (first + met) * RECORD..count * RECORD,
             (first + new.len()) * RECORD,
@@ -184,7 +207,7 @@ impl<B: AsRef<[u8]> + AsMut<[u8]>> Block<B> {
     pub fn replace(&mut self, which: Which, records: &[Record]) {
         let count = self.count(which);
         let total = records.iter().map(|record| record.size).sum();
-        let table = &mut self.bytes_mut()[which.offset()..][..TABLE];
+        let table = which.bytes_mut(self.bytes_mut());
         write_records(table, records);
         table[records.len() * RECORD..count * RECORD].fill(0);
         self.write_count_and_total(which, records.len(), total);
@@ -199,13 +222,13 @@ impl<B: AsRef<[u8]> + AsMut<[u8]>> Block<B> {
         self.replace(Which::Memory, &trimmed);
     }
 
-    /// A copy of all bytes, to be put back by `restore`.
-    pub fn saved(&self) -> [u8; LENGTH] {
-        self.bytes().try_into().expect("a good block")
+    /// A copy of all bytes before the taken table, to be put back by `restore`.
+    pub fn saved(&self) -> [u8; FRONT] {
+        self.bytes()[..FRONT].try_into().expect("a good block")
     }
 
-    pub fn restore(&mut self, saved: &[u8; LENGTH]) {
-        self.bytes_mut().copy_from_slice(saved);
+    pub fn restore(&mut self, saved: &[u8; FRONT]) {
+        self.bytes_mut()[..FRONT].copy_from_slice(saved);
     }
 
     fn write_count_and_total(&mut self, which: Which, count: usize, total: u64) {
@@ -219,12 +242,12 @@ fn good_table(block: &[u8], which: Which) -> bool {
     let count = read_u32(block, entry + 8) as usize;
     if read_u32(block, entry) != which.kind()
         || read_u32(block, entry + 4) as usize != which.offset()
-        || read_u32(block, entry + 12) as usize != CAPACITY
-        || count > CAPACITY
+        || read_u32(block, entry + 12) as usize != which.capacity()
+        || count > which.capacity()
     {
         return false;
     }
-    let (used, unused) = block[which.offset()..][..TABLE].split_at(count * RECORD);
+    let (used, unused) = which.bytes(block).split_at(count * RECORD);
     let mut total = 0;
     let mut previous: Option<Record> = None;
     for record in used.chunks_exact(RECORD).map(Record::read) {

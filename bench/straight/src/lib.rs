@@ -1,6 +1,6 @@
-//! The twelve commands of document 01 and the E820 intake of request E1 as plain
-//! Rust: the program that the library's speed is held against. Same rules, same
-//! numbers, same bytes.
+//! The twelve commands of document 01 and the E820 intake of request E1, on the
+//! block of request E4, as plain Rust: the program that the library's speed is held
+//! against. Same rules, same numbers, same bytes.
 
 #![forbid(unsafe_code)]
 
@@ -9,7 +9,9 @@ mod record;
 mod report;
 mod search;
 
-use block::{Block, Which, LENGTH, SLIP};
+pub use block::{LENGTH, TAKEN};
+
+use block::{Block, Which, SLIP};
 use record::{Tag, NO_MAP, PLAIN};
 use search::{Direction, Wish};
 

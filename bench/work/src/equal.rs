@@ -8,16 +8,25 @@ pub fn random_calls<Other: Side>(calls: u64) {
     let mut rng = Rng(1);
     let mut block = Block::fresh();
     let mut seen = [0u64; 11];
+    let mut taken_full = false;
     for turn in 0..calls {
+        let wide = turn % 4000 < 2000;
         if turn % 2000 == 0 {
             block = Block::fresh();
         }
-        let call = random_call(&mut rng, turn % 4000 < 2000);
+        if turn % 6000 == 4000 {
+            fill_taken::<Other>(&mut block, wide);
+        }
+        let call = random_call(&mut rng, wide);
         if rng.between(0, 19) == 0 {
             let mut damaged = damaged(&mut rng, &block);
             seen[call_both::<Other>(call, &mut damaged) as usize] += 1;
         }
-        seen[call_both::<Other>(call, &mut block) as usize] += 1;
+        let number = call_both::<Other>(call, &mut block);
+        seen[number as usize] += 1;
+        if let Call::Reserve(..) | Call::Free(..) | Call::Allocate(..) = call {
+            taken_full |= number == straight::TABLE_FULL;
+        }
         if turn % 20 == 0 {
             // An intake trims small ranges away: mostly go on from the block before.
             let report = random_report(&mut rng);
@@ -36,11 +45,21 @@ pub fn random_calls<Other: Side>(calls: u64) {
     // 8 needs a slip of another length and is left to the tests; there is no 9.
     let met = |number: usize| seen[number] > 0;
     assert!((0..8).chain([10]).all(met), "not every number met");
+    assert!(taken_full, "the taken table was never full");
     println!(
         "bench: {} random calls on library and {}, all equal",
         seen.iter().sum::<u64>(),
         Other::NAME
     );
+}
+
+/// As many taken records as there may be, where random calls have their ranges.
+fn fill_taken<Other: Side>(block: &mut Block, wide: bool) {
+    let unit = 1 << shift(wide);
+    for record in 0..straight::TAKEN as u64 {
+        let call = Call::Reserve(7 * unit * record, unit);
+        assert_eq!(call_both::<Other>(call, block), 0);
+    }
 }
 
 /// The block with one bit turned.
@@ -84,9 +103,17 @@ fn random_report(rng: &mut Rng) -> Vec<u8> {
     report
 }
 
+fn shift(wide: bool) -> u32 {
+    if wide {
+        10
+    } else {
+        4
+    }
+}
+
 /// With `wide` the ranges are far apart and tables fill up.
 fn random_call(rng: &mut Rng, wide: bool) -> Call<'static> {
-    let shift = if wide { 10 } else { 4 };
+    let shift = shift(wide);
     let mut base = rng.between(0, 4000) << shift;
     let mut size = rng.between(0, 40) * rng.between(1, 24);
     match rng.between(0, 29) {

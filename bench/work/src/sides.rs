@@ -2,7 +2,7 @@
 
 use crate::library::Library;
 
-pub const LENGTH: usize = 6224;
+pub use straight::LENGTH;
 pub const ANY_NODE: u32 = u32::MAX;
 pub const TOP_DOWN: u32 = 0;
 pub const BOTTOM_UP: u32 = 1;

@@ -51,7 +51,7 @@ unfolding blockBytes
 block-spelled L s =
     bytes-append (header-spelled L (headerOf s)) (bytes-append (table-spelled (capacity L Memory) (s .memory)) (table-spelled (capacity L Taken) (s .taken)))
 
-good-bytes : (L : Layout) (b : List ℕ) → good L b ≡ true → Bytes b
+pub good-bytes : (L : Layout) (b : List ℕ) → good L b ≡ true → Bytes b
 good-bytes L b g = rw (good-spelled L b g) at (block-spelled L (contents L b))
 
 -- ---- another list in one of the tables

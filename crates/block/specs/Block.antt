@@ -21,9 +21,13 @@ use Rattle.records.specs.Totals.{tally}
 abbrev pub editionOne : Layout
 editionOne = record { edition = 1; memory = 128; taken = 128 }
 
+-- E4's: edition 2, room for 512 taken records
+abbrev pub editionTwo : Layout
+editionTwo = record { edition = 2; memory = 128; taken = 512 }
+
 -- the layout that the commands work on
 abbrev pub current : Layout
-current = editionOne
+current = editionTwo
 
 unfoldable pub capacity : Layout → Kind → ℕ
 capacity L Memory = L .memory
@@ -34,7 +38,7 @@ unfoldable pub offset : Layout → Kind → ℕ
 offset L Memory = 80
 offset L Taken = 80 + 24 * L .memory
 
--- 6,224 bytes in edition 1
+-- 6,224 bytes in edition 1, 15,440 in edition 2
 abbrev pub blockLength : Layout → ℕ
 blockLength L = 80 + 24 * (L .memory + L .taken)
 

@@ -13,18 +13,21 @@ ghost use mathlib.Core.Path.{_≡_};
 ghost use Prim.Native.Nat.{_+_, _*_, _<_, _≤_};
 ghost use lib.ListN.{length, take, drop};
 ghost use lib.Seq.{sets};
-ghost use Rattle.block.specs.Block.{current, capacity as capacityOf, offset, entryBytes, entriesBytes, settingsBytes, totalsBytes, headerBytes, readHeader, sameBytes, good};
+ghost use Rattle.block.specs.Block.{editionOne, current, capacity as capacityOf, offset, entryBytes, entriesBytes, settingsBytes, totalsBytes, headerBytes, readHeader, sameBytes, good};
 ghost use Rattle.block.specs.Checks.{Small, withTotals, tallyOf, withTally};
 
 // The layout that the commands work on: how many records each table has room for, and the length of the block.
 pub const MEMORY: u32 = 128;
 
-pub const TAKEN: u32 = 128;
+pub const TAKEN: u32 = 512;
 
-pub const LENGTH: usize = 6224;
+pub const LENGTH: usize = 15440;
 
 // The header and the memory table: the bytes before the taken table.
 pub const FRONT: usize = 3152;
+
+// The length of an edition 1 block.
+pub const LENGTH_ONE: usize = 6224;
 
 // Which edition, and how many records each table has room for.
 pub struct Layout {
@@ -104,14 +107,25 @@ impl Layout {
     }
 }
 
-// The layout that the commands work on: edition 1.
+// The layout that the commands work on: edition 2.
 pub fn current_layout() -> Layout
     ensures { λ r. ⌜ r ≡ current ⌝ }
 {
     Layout {
-        edition: 1,
+        edition: 2,
         memory: MEMORY,
         taken: TAKEN,
+    }
+}
+
+// Document 01's layout, which only the converting command reads.
+pub fn edition_one_layout() -> Layout
+    ensures { λ r. ⌜ r ≡ editionOne ⌝ }
+{
+    Layout {
+        edition: 1,
+        memory: 128,
+        taken: 128,
     }
 }
 

@@ -73,7 +73,7 @@ fn say_taken(block: &[u8; LENGTH]) {
 
 // The record that stands at an offset of the block.
 fn say_record(block: &[u8; LENGTH], at: usize) {
-    if at <= 6200 {
+    if at <= LENGTH - 24 {
         say(b"  ");
         say_range(get_u64(block, at), get_u64(block, at + 8));
         say_tag(get_u32(block, at + 16), get_u32(block, at + 20));
@@ -356,6 +356,53 @@ fn case_11_remove() {
     say_record(&block, 104);
 }
 
+// Reserves 512 records with a gap of 0x1000 after each, and answers how many were done before one was refused.
+fn reserve_512(block: &mut [u8]) -> u64 {
+    let mut done: u64 = 0;
+    while done < 512 {
+        if memblock::memblock_reserve(block, done * 0x2000, 0x1000) != 0 {
+            return done;
+        }
+        done += 1;
+    }
+    done
+}
+
+// A fresh block with a full taken table.
+fn with_512(block: &mut [u8]) {
+    fresh(block);
+    say(b"512 reserves, base 0 and every 0x2000 after, size 0x1000: done ");
+    io::print_decimal(STDOUT_FILENO, reserve_512(block));
+    say(b"\n");
+}
+
+fn case_11_reserve() {
+    let mut block = [0u8; LENGTH];
+    say(b"case 11, the taken table\n");
+    with_512(&mut block);
+    say_taken(&block);
+    let before = block;
+    reserve(&mut block, 0x400000, 0x1000);
+    say_same(&before, &block);
+    reserve(&mut block, 0x1000, 0x1000);
+    say_taken(&block);
+    say_record(&block, 3152);
+    say_record(&block, 3176);
+}
+
+fn case_11_free() {
+    let mut block = [0u8; LENGTH];
+    with_512(&mut block);
+    say_taken(&block);
+    let before = block;
+    free(&mut block, 0x2400, 0x800);
+    say_same(&before, &block);
+    free(&mut block, 0x2000, 0x1000);
+    say_taken(&block);
+    say_record(&block, 3152);
+    say_record(&block, 3176);
+}
+
 fn case_12() {
     let mut block = [0u8; LENGTH];
     say(b"case 12\n");
@@ -378,5 +425,7 @@ fn main() {
     case_10();
     case_11_add();
     case_11_remove();
+    case_11_reserve();
+    case_11_free();
     case_12();
 }

@@ -43,7 +43,7 @@ use Rattle.search.proofs.Found.{eligible-below, found-eligible}
 use Rattle.search.proofs.Answering.{number-ready}
 use Rattle.runs.proofs.Ways.{Up, Down, walk, falling}
 use Rattle.runs.proofs.Walks.{walk-lowest, walk-highest}
-use Rattle.memblock.specs.Calls.{Call, toFresh, toSet, toCommand, toTrim, toFind, toNextFree, toAllocate, toIntake, answerOf, answers}
+use Rattle.memblock.specs.Calls.{Call, toFresh, toSet, toCommand, toTrim, toFind, toNextFree, toAllocate, toIntake, toConvert, answerOf, answers}
 
 -- ---- which contents can stand in a block, computed
 
@@ -104,6 +104,7 @@ compute (toFind q slip) s = finds s q (seek s q)
 compute (toNextFree from node slip) s = result 0 s []
 compute (toAllocate q slip) s = takes s q (seek s q)
 compute (toIntake report) s = result 0 s []
+compute (toConvert old) s = result 0 s []
 
 -- the call is one that this twin works out: no check refuses it
 abbrev asks : Query → List ℕ → Bool
@@ -118,6 +119,7 @@ computable (toFind q slip) = asks q slip
 computable (toNextFree from node slip) = false
 computable (toAllocate q slip) = asks q slip
 computable (toIntake report) = false
+computable (toConvert old) = false
 
 -- the answer that is result
 abbrev pub spelled : Result → Answer
@@ -239,6 +241,7 @@ call-computed (toFind q slip) s sp e = find-computed s sp q slip e
 call-computed (toNextFree from node slip) s sp e = absurd (zero-not-one cc)
 call-computed (toAllocate q slip) s sp e = allocate-computed s sp q slip e
 call-computed (toIntake report) s sp e = absurd (zero-not-one cc)
+call-computed (toConvert old) s sp e = absurd (zero-not-one cc)
 
 unfoldable pub computeAll : List Call → Contents → List Result
 computeAll [] s = []

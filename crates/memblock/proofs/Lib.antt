@@ -10,3 +10,4 @@ pub mod Cases
 pub mod Freed
 pub mod Refusals
 pub mod Reports
+pub mod Editions

@@ -1,7 +1,7 @@
 -- Whatever the call and the bytes: a refusal leaves all as it was and a slip zero, and a call that is done leaves a good block. Assumes nothing.
 use Prim.Native.Nat.{ℕ, _+_}
 use mathlib.Core.Path.{_≡_, refl, ap, _∙_}
-use mathlib.Core.Bool.{Bool, true, false, cond}
+use mathlib.Core.Bool.{Bool, true, false, cond, _&&_}
 use mathlib.Core.List.{List, []}
 use native.Mathlib.Omega.{arith}
 use lib.Dec.{leb, eqb}
@@ -15,6 +15,8 @@ use Rattle.regions.specs.declared.Change.the-variants.{Fill}
 use Rattle.block.specs.Block.{current, capacity, blockLength, listOf, contents, good}
 use Rattle.tables.specs.declared.commands.Verb.the-variants.{Reserve}
 use Rattle.tables.specs.Commands.{Outcome, unless, doneWith, store, changeRange, tag, Command, command, table, changeOf, legalVerb, commandOutcome, fresh, set, trim}
+use Rattle.tables.specs.Convert.{goodOne, convert}
+use Rattle.tables.proofs.Converting.{convert-sentence}
 use Rattle.tables.proofs.Good.{command-good, trim-good, set-good, fresh-good}
 use Rattle.intake.specs.Turns.{inTurn, wholly}
 use Rattle.intake.specs.E820.{entries, readable, entrySteps, intakeE820}
@@ -24,7 +26,7 @@ use Rattle.runs.specs.declared.fit.Place.{Place}
 use Rattle.runs.specs.declared.fit.Place.the-variants.{Here, Nowhere}
 use Rattle.search.specs.Search.{foundPlace, nextPlace}
 use Rattle.search.specs.Answers.{Answer, answer, refuse, unless as unlessAnswer, slipOf, withSlip, asking, nodeKnown, refusal, checkNumber, nextNumber, find, findAnswer, allocate, allocateAnswer, reserved, nextFree, nextFreeAnswer}
-use Rattle.memblock.specs.Calls.{Call, toFresh, toSet, toCommand, toTrim, toFind, toNextFree, toAllocate, toIntake, plain, answerOf}
+use Rattle.memblock.specs.Calls.{Call, toFresh, toSet, toCommand, toTrim, toFind, toNextFree, toAllocate, toIntake, toConvert, plain, answerOf}
 use Rattle.memblock.specs.Refusals.{slipLent, RefusalSentence, DoneSentence}
 
 -- ---- calls without a slip
@@ -105,6 +107,11 @@ module _ (b : List ℕ) where
           go : (t : Bool) → eqb (o .number) 0 ≡ t → Keeps b (unless t (o .number) b o)
           go true e = λ d. absurd (d (eqb-true (o .number) 0 e))
           go false e = λ d. refl
+
+  convert-fair : (old : List ℕ) → FairOutcome b (convert old b)
+  unfolding convert
+  convert-fair old =
+      record { keeps = one-keeps b _ (goodOne old && eqb (length b) (blockLength current)) 1; isGood = convert-sentence .converts old b .isGood }
 
 -- ---- calls with a slip
 
@@ -204,6 +211,7 @@ fair (toFind q slip) b = find-fair b slip q
 fair (toNextFree from node slip) b = next-free-fair b slip _ _
 fair (toAllocate q slip) b = allocate-fair b slip q
 fair (toIntake report) b = plain-fair b _ (intake-fair b report)
+fair (toConvert old) b = plain-fair b _ (convert-fair b old)
 
 pub refusal-sentence : RefusalSentence
 refusal-sentence c b d = let f = fair c b in record { block = f .block d; zero = f .zero d; lent = f .lent d }

@@ -4,6 +4,7 @@ use Prim.Native.Nat.{ℕ}
 use mathlib.Core.List.{List, [], _∷_}
 use Rattle.block.specs.Block.{current}
 use Rattle.tables.specs.Commands.{Outcome, fresh, set, Command, commandOutcome, trim}
+use Rattle.tables.specs.Convert.{convert}
 use Rattle.intake.specs.E820.{intakeE820}
 use Rattle.runs.specs.declared.Query.{Query}
 use Rattle.search.specs.Answers.{Answer, answer, find, allocate, nextFree}
@@ -22,6 +23,7 @@ pub data Call : Type 0 where
   toNextFree : (from node : ℕ) → (slip : List ℕ) → Call
   toAllocate : Query → (slip : List ℕ) → Call
   toIntake : (report : List ℕ) → Call
+  toConvert : (old : List ℕ) → Call
 
 -- a call without a slip leaves none
 abbrev pub plain : Outcome → Answer
@@ -37,6 +39,7 @@ answerOf (toFind q slip) b = find current q b slip
 answerOf (toNextFree from node slip) b = nextFree current from node b slip
 answerOf (toAllocate q slip) b = allocate current q b slip
 answerOf (toIntake report) b = plain (intakeE820 current report b)
+answerOf (toConvert old) b = plain (convert old b)
 
 -- the answers of a list of calls, each on the block that the one before it left
 unfoldable pub answers : List Call → List ℕ → List Answer

@@ -1,4 +1,5 @@
 pub mod Calls
+pub mod Editions
 pub mod Freed
 pub mod Lists
 pub mod Refusals

@@ -12,9 +12,9 @@ ghost use Rattle.runs.specs.Eligible.{query};
 ghost use Rattle.search.specs.Answers.{answer};
 ghost use Rattle.tables.specs.declared.commands.Verb.the-variants.{Add, Remove, Mark, Unmark, Reserve, Free};
 ghost use Rattle.tables.specs.Commands.{tag, command};
-ghost use Rattle.memblock.specs.Calls.{toFresh, toSet, toCommand, toTrim, toFind, toNextFree, toAllocate, toIntake, answerOf};
+ghost use Rattle.memblock.specs.Calls.{toFresh, toSet, toCommand, toTrim, toFind, toNextFree, toAllocate, toIntake, toConvert, answerOf};
 
-// Writes a fresh block over any 6,224 bytes.
+// Writes a fresh block over any 15,440 bytes.
 #[no_mangle]
 pub extern "C" fn memblock_fresh(block: &mut [u8]) -> u32
     ensures { λ r. ⌜ answer r (now (block .exit)) [] ≡ answerOf toFresh (now (block .entry)) ⌝ }
@@ -151,4 +151,12 @@ pub extern "C" fn memblock_intake_e820(block: &mut [u8], report: &[u8]) -> u32
     ensures { λ r. ⌜ answer r (now (block .exit)) [] ≡ answerOf (toIntake (now (report .entry))) (now (block .entry)) ⌝ }
 {
     intake::e820::intake(block, report)
+}
+
+// Writes what an edition 1 block says over any 15,440 bytes. The old block stays.
+#[no_mangle]
+pub extern "C" fn memblock_convert(old: &[u8], block: &mut [u8]) -> u32
+    ensures { λ r. ⌜ answer r (now (block .exit)) [] ≡ answerOf (toConvert (now (old .entry))) (now (block .entry)) ⌝ }
+{
+    tables::convert::convert(old, block)
 }

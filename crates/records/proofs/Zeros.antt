@@ -1,14 +1,14 @@
 -- Zero bytes, one at a time and as many as make a number. Assumes nothing.
 use Prim.Native.Nat.{ℕ, zero, suc, _+_, _*_, _-_, _≤_, _<_}
 use mathlib.Core.Path.{_≡_, refl, sym, ap, ap₂, _∙_}
-use mathlib.Core.Bool.{Bool, true, false, _&&_}
+use mathlib.Core.Bool.{Bool, true, false, _&&_, and-true, and-false}
 use mathlib.Core.List.{List, [], _∷_, _++_, append-assoc, append-nil}
 use native.Mathlib.Omega.{arith}
 use native.Mathlib.Nat.{le-of-suc-le-suc, not-suc-le-zero}
 use native.Mathlib.Numerals.{add-one}
 use lib.Dec.{eqb}
 use lib.ListN.{length, take, drop, getD, set, replicate, length-append, length-drop, length-replicate, replicate-append-replicate, take-append-drop, drop-of-length-le}
-use lib.Seq.{drop-cons, drop-drop, take-add, take-all, length-take-le, set-at}
+use lib.Seq.{drop-cons, drop-drop, take-add, length-take-le, set-at}
 use lib.Bits.{bitOr, or-add-and, and-le-l, and-le-r}
 use borrow.Author.Tests.{eq-eqb, ne-eqb, eqb-true, eqb-false}
 use Rattle.address.proofs.Tests.{both}
@@ -126,7 +126,7 @@ module _ (l : List ℕ) where
       → eqb d 0 ≡ allZeros (take 32 (drop (i + 96) l)) → eqb (bitOr (bitOr (bitOr a b) c) d) 0 ≡ allZeros (take 128 (drop i l))
   four-32 i a b c d p q r s = four 32 i (i + 64) (i + 96) 128 a b c d refl refl refl p q r s
 
-  -- from `at` up to i all is 0
+  -- those up to i, and those from there on
   cut : (at i : ℕ) → at ≤ i → allZeros (drop at l) ≡ (allZeros (take (i - at) (drop at l)) && allZeros (drop i l))
   cut at i h =
       let e : at + (i - at) ≡ i = omega arith in
@@ -134,35 +134,29 @@ module _ (l : List ℕ) where
       let f : take (i - at) (drop at l) ++ drop i l ≡ drop at l = rw (← d) (take-append-drop (i - at) (drop at l)) in
       rw (← zeros-append, f)
 
-  pub none-yet : (at : ℕ) → allZeros (take (at - at) (drop at l)) ≡ true
+  pub none-yet : (n : ℕ) → n ≡ length l → allZeros (drop n l) ≡ true
   unfolding allZeros
-  none-yet at = let e : at - at ≡ 0 = omega arith in rw e
+  none-yet n e = ap allZeros (drop-of-length-le l {i = n} (omega (arith, e)))
 
-  -- m bytes a turn
-  module _ (m at i : ℕ) (low : at ≤ i) (inv : allZeros (take (i - at) (drop at l)) ≡ true) where
-    pub zero-turn : (v : ℕ) → eqb v 0 ≡ allZeros (take m (drop i l)) → v ≡ 0 → allZeros (take (i + m - at) (drop at l)) ≡ true
-    zero-turn v e z =
-        let f : i + m - at ≡ i - at + m = omega arith in
-        let g : at + (i - at) ≡ i = omega arith in
-        let d : drop (i - at) (drop at l) ≡ drop i l = drop-drop (i - at) at l ∙ rw g in
-        rw (f, take-add (i - at) m (drop at l), d, zeros-append, inv, ← e, eq-eqb v 0 z)
+  -- m bytes a turn, those before i
+  module _ (m at i : ℕ) (inv : allZeros (drop i l) ≡ true) (room : m ≤ i - at) (v : ℕ) (e : eqb v 0 ≡ allZeros (take m (drop (i - m) l))) where
+    behind : at ≤ i → allZeros (drop (i - m) l) ≡ eqb v 0
+    behind low =
+        let n : i - (i - m) ≡ m = omega arith in
+        cut (i - m) i (omega arith) ∙ rw (n, ← e, inv, and-true)
 
-    pub turn-hit : (v : ℕ) → eqb v 0 ≡ allZeros (take m (drop i l)) → (v ≡ 0 → ⊥) → false ≡ allZeros (drop at l)
-    turn-hit v e z =
-        let d : allZeros (drop i l) ≡ false = cut-here ∙ rw (← e, ne-eqb v 0 z) in
-        sym (cut at i low ∙ rw (inv, d))
-      where
-        cut-here : allZeros (drop i l) ≡ (allZeros (take m (drop i l)) && allZeros (drop m (drop i l)))
-        cut-here = rw (← zeros-append, take-append-drop)
+    pub zero-turn : at ≤ i → v ≡ 0 → allZeros (drop (i - m) l) ≡ true
+    zero-turn low z = behind low ∙ eq-eqb v 0 z
 
-    -- fewer than m are left: they are among the last m
-    pub zero-last : (n v : ℕ) → n ≡ length l → eqb v 0 ≡ allZeros (take m (drop (n - m) l)) → m ≤ n - at → n - i < m → eqb v 0 ≡ allZeros (drop at l)
-    zero-last n v len e h k =
-        let j : ℕ = n - m in
-        let r : length (drop j l) ≤ m = simp length-drop (omega arith) in
-        let f : i - at ≡ j - at + (i - j) = omega arith in
-        let p : allZeros (take (j - at) (drop at l)) && allZeros (take (i - j) (drop (j - at) (drop at l))) ≡ true = rw (f, take-add (j - at) (i - j) (drop at l), zeros-append) at inv in
-        e ∙ sym (cut at j (omega arith) ∙ rw (both (allZeros (take (j - at) (drop at l))) (allZeros (take (i - j) (drop (j - at) (drop at l)))) p .0, take-all m (drop j l) r))
+    pub turn-hit : at ≤ i → (v ≡ 0 → ⊥) → false ≡ allZeros (drop at l)
+    turn-hit low z = sym (cut at (i - m) (omega arith) ∙ rw (behind low, ne-eqb v 0 z, and-false))
+
+  -- fewer than m are left: they are among the first m
+  pub zero-first : (m at i : ℕ) → allZeros (drop i l) ≡ true → i - at < m → (v : ℕ) → eqb v 0 ≡ allZeros (take m (drop at l)) → eqb v 0 ≡ allZeros (drop at l)
+  zero-first m at i inv few v e =
+      let n : at + m - at ≡ m = omega arith in
+      let r : allZeros (drop (at + m) l) ≡ true = both (allZeros (take (at + m - i) (drop i l))) (allZeros (drop (at + m) l)) (sym (cut i (at + m) (omega arith)) ∙ inv) .1 in
+      sym (cut at (at + m) (omega arith) ∙ rw (n, ← e, r, and-true))
 
 -- zeros are zeros
 pub zeros-replicate : (l : List ℕ) → allZeros l ≡ true → l ≡ replicate (length l) 0

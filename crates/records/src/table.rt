@@ -115,21 +115,22 @@ fn any16(t: &[u8], i: usize) -> u64
     any4(t, i) | any4(t, i + 32) | any4(t, i + 64) | any4(t, i + 96)
 }
 
-// Whether every byte from `at` on is 0, 128 at a time, and what is left with the last 128.
+// Whether every byte from `at` on is 0, 128 at a time from the end, and what is left with the first 128: a table ends at a multiple of 16, wherever its
+// records end.
 pub fn all_zero(t: &[u8], at: usize) -> bool
     requires { ⌜ at ≤ length (now t) ⌝ }
     ensures { λ b. ⌜ b ≡ allZeros (drop at (now (t .entry))) ⌝ }
 {
     let n = t.len();
-    let mut i = at;
-    while 128 <= n - i {
+    let mut i = n;
+    while 128 <= i - at {
+        i -= 128;
         if any16(t, i) != 0 {
             return false;
         }
-        i += 128;
     }
     if 128 <= n - at {
-        return any16(t, n - 128) == 0;
+        return any16(t, at) == 0;
     }
     few_zero(t, at)
 }

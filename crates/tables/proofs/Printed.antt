@@ -1,4 +1,4 @@
--- The blocks that document 01 prints agree with the definitions: a fresh block, and a fresh block after one add. Assumes nothing.
+-- The blocks that document 01 prints agree with the definitions, a fresh block and a fresh block after one add; and both as E4 makes them. Assumes nothing.
 use Prim.Native.Nat.{ℕ, _+_, _≤_}
 use mathlib.Core.Path.{_≡_, refl, sym, ap, _∙_}
 use mathlib.Core.Bool.{true}
@@ -21,28 +21,28 @@ use Rattle.regions.proofs.Good.{total-is-sizes}
 use Rattle.regions.specs.Steps.{stretch}
 use Rattle.regions.proofs.Update.{walk, update}
 use Rattle.regions.proofs.Update.{update-shortest}
-use Rattle.block.specs.Block.{current, capacity, offset, withList, freshContents, entryBytes, entriesBytes, settingsBytes, totalsBytes, headerBytes, blockBytes, goodTable, goodContents, good}
+use Rattle.block.specs.Block.{editionOne, current, capacity, offset, withList, freshContents, entryBytes, entriesBytes, settingsBytes, totalsBytes, headerBytes, blockBytes, goodTable, goodContents, good}
 use Rattle.tables.specs.declared.commands.Verb.the-variants.{Add}
 use Rattle.tables.specs.Commands.{outcome, tag, fresh, store, command, commandOutcome}
-use Rattle.block.proofs.Layouts.{small-current}
-use Rattle.tables.proofs.Setting.{freshHeader, total-empty, fresh-spelled}
+use Rattle.block.proofs.Layouts.{small-one, small-current}
+use Rattle.tables.proofs.Setting.{total-empty, fresh-spelled}
 use Rattle.block.proofs.Reading.{Spellable, contents-spelled, good-spelled-block}
 
--- the first 80 bytes of a fresh block; zeros follow
-abbrev pub freshPrinted : List ℕ
-freshPrinted =
-    0x01 ∷ 0x00 ∷ 0x00 ∷ 0x00 ∷ 0x02 ∷ 0x00 ∷ 0x00 ∷ 0x00 ∷ 0x01 ∷ 0x00 ∷ 0x00 ∷ 0x00 ∷ 0x50 ∷ 0x00 ∷ 0x00 ∷ 0x00 ∷
+-- the first 80 bytes of a fresh block, by its edition and the two low bytes of the taken table's capacity; zeros follow
+abbrev pub freshPrinted : ℕ → ℕ → ℕ → List ℕ
+freshPrinted edition low high =
+    edition ∷ 0x00 ∷ 0x00 ∷ 0x00 ∷ 0x02 ∷ 0x00 ∷ 0x00 ∷ 0x00 ∷ 0x01 ∷ 0x00 ∷ 0x00 ∷ 0x00 ∷ 0x50 ∷ 0x00 ∷ 0x00 ∷ 0x00 ∷
     0x00 ∷ 0x00 ∷ 0x00 ∷ 0x00 ∷ 0x80 ∷ 0x00 ∷ 0x00 ∷ 0x00 ∷ 0x02 ∷ 0x00 ∷ 0x00 ∷ 0x00 ∷ 0x50 ∷ 0x0C ∷ 0x00 ∷ 0x00 ∷
-    0x00 ∷ 0x00 ∷ 0x00 ∷ 0x00 ∷ 0x80 ∷ 0x00 ∷ 0x00 ∷ 0x00 ∷ 0xFF ∷ 0xFF ∷ 0xFF ∷ 0xFF ∷ 0xFF ∷ 0xFF ∷ 0xFF ∷ 0xFF ∷
+    0x00 ∷ 0x00 ∷ 0x00 ∷ 0x00 ∷ low ∷ high ∷ 0x00 ∷ 0x00 ∷ 0xFF ∷ 0xFF ∷ 0xFF ∷ 0xFF ∷ 0xFF ∷ 0xFF ∷ 0xFF ∷ 0xFF ∷
     0x00 ∷ 0x00 ∷ 0x00 ∷ 0x00 ∷ 0x00 ∷ 0x00 ∷ 0x00 ∷ 0x00 ∷ 0x00 ∷ 0x00 ∷ 0x00 ∷ 0x00 ∷ 0x00 ∷ 0x00 ∷ 0x00 ∷ 0x00 ∷
     0x00 ∷ 0x00 ∷ 0x00 ∷ 0x00 ∷ 0x00 ∷ 0x00 ∷ 0x00 ∷ 0x00 ∷ 0x00 ∷ 0x00 ∷ 0x00 ∷ 0x00 ∷ 0x00 ∷ 0x00 ∷ 0x00 ∷ 0x00 ∷ []
 
 -- fresh followed by add(0x1000, 0x1000, flags 0, node 0), the first 104 bytes as printed; zeros follow
-abbrev pub addPrinted : List ℕ
-addPrinted =
-    0x01 ∷ 0x00 ∷ 0x00 ∷ 0x00 ∷ 0x02 ∷ 0x00 ∷ 0x00 ∷ 0x00 ∷ 0x01 ∷ 0x00 ∷ 0x00 ∷ 0x00 ∷ 0x50 ∷ 0x00 ∷ 0x00 ∷ 0x00 ∷
+abbrev pub addPrinted : ℕ → ℕ → ℕ → List ℕ
+addPrinted edition low high =
+    edition ∷ 0x00 ∷ 0x00 ∷ 0x00 ∷ 0x02 ∷ 0x00 ∷ 0x00 ∷ 0x00 ∷ 0x01 ∷ 0x00 ∷ 0x00 ∷ 0x00 ∷ 0x50 ∷ 0x00 ∷ 0x00 ∷ 0x00 ∷
     0x01 ∷ 0x00 ∷ 0x00 ∷ 0x00 ∷ 0x80 ∷ 0x00 ∷ 0x00 ∷ 0x00 ∷ 0x02 ∷ 0x00 ∷ 0x00 ∷ 0x00 ∷ 0x50 ∷ 0x0C ∷ 0x00 ∷ 0x00 ∷
-    0x00 ∷ 0x00 ∷ 0x00 ∷ 0x00 ∷ 0x80 ∷ 0x00 ∷ 0x00 ∷ 0x00 ∷ 0xFF ∷ 0xFF ∷ 0xFF ∷ 0xFF ∷ 0xFF ∷ 0xFF ∷ 0xFF ∷ 0xFF ∷
+    0x00 ∷ 0x00 ∷ 0x00 ∷ 0x00 ∷ low ∷ high ∷ 0x00 ∷ 0x00 ∷ 0xFF ∷ 0xFF ∷ 0xFF ∷ 0xFF ∷ 0xFF ∷ 0xFF ∷ 0xFF ∷ 0xFF ∷
     0x00 ∷ 0x00 ∷ 0x00 ∷ 0x00 ∷ 0x00 ∷ 0x00 ∷ 0x00 ∷ 0x00 ∷ 0x00 ∷ 0x10 ∷ 0x00 ∷ 0x00 ∷ 0x00 ∷ 0x00 ∷ 0x00 ∷ 0x00 ∷
     0x00 ∷ 0x00 ∷ 0x00 ∷ 0x00 ∷ 0x00 ∷ 0x00 ∷ 0x00 ∷ 0x00 ∷ 0x00 ∷ 0x00 ∷ 0x00 ∷ 0x00 ∷ 0x00 ∷ 0x00 ∷ 0x00 ∷ 0x00 ∷
     0x00 ∷ 0x10 ∷ 0x00 ∷ 0x00 ∷ 0x00 ∷ 0x00 ∷ 0x00 ∷ 0x00 ∷ 0x00 ∷ 0x10 ∷ 0x00 ∷ 0x00 ∷ 0x00 ∷ 0x00 ∷ 0x00 ∷ 0x00 ∷
@@ -50,17 +50,25 @@ addPrinted =
 
 -- ---- fresh
 
-fresh-head : headerBytes current freshHeader ≡ freshPrinted
+-- document 01's fresh block
+pub fresh-one : blockBytes editionOne freshContents ≡ freshPrinted 0x01 0x80 0x00 ++ replicate 6144 0
 unfolding headerBytes entriesBytes entryBytes settingsBytes totalsBytes capacity offset bytes
-fresh-head = refl
+fresh-one = fresh-spelled editionOne
 
-fresh-block : blockBytes current freshContents ≡ freshPrinted ++ replicate 6144 0
-fresh-block = fresh-spelled current ∙ ap (λ (x : List ℕ). x ++ replicate 6144 0) fresh-head
+fresh-two : blockBytes current freshContents ≡ freshPrinted 0x02 0x00 0x02 ++ replicate 15360 0
+unfolding headerBytes entriesBytes entryBytes settingsBytes totalsBytes capacity offset bytes
+fresh-two = fresh-spelled current
 
--- fresh over any 6,224 bytes
-pub fresh-printed : (b : List ℕ) → length b ≡ 6224 → fresh current b ≡ outcome 0 (freshPrinted ++ replicate 6144 0)
+-- fresh over any 15,440 bytes
+pub fresh-printed : (b : List ℕ) → length b ≡ 15440 → fresh current b ≡ outcome 0 (freshPrinted 0x02 0x00 0x02 ++ replicate 15360 0)
 unfolding fresh
-fresh-printed b e = rw (eq-eqb (length b) 6224 e, fresh-block)
+fresh-printed b e = rw (eq-eqb (length b) 15440 e, fresh-two)
+
+pub fresh-spellable-one : Spellable editionOne freshContents
+unfolding goodContents goodTable goodList rises legal capacity
+fresh-spellable-one =
+    let t : rises 0 Absent top [] ≡ true = le-leb 0 top (omega arith) in
+    record { good = rw t; limit = omega arith }
 
 pub fresh-spellable : Spellable current freshContents
 unfolding goodContents goodTable goodList rises legal capacity
@@ -96,19 +104,36 @@ first-total : total (at first) top ≡ 0x1000
 unfolding sizes
 first-total = total-is-sizes first first-canonical
 
-first-block : blockBytes current (withList freshContents Memory first) ≡ addPrinted ++ replicate 6120 0
+first-one : blockBytes editionOne (withList freshContents Memory first) ≡ addPrinted 0x01 0x80 0x00 ++ replicate 6120 0
 unfolding blockBytes headerBytes entriesBytes entryBytes settingsBytes totalsBytes tableBytes regionsBytes regionBytes capacity offset bytes
-first-block = rw (first-total, total-empty) (ap (λ (x : List ℕ). addPrinted ++ x) (replicate-append-replicate 3048 3072 0))
+first-one = rw (first-total, total-empty) (ap (λ (x : List ℕ). addPrinted 0x01 0x80 0x00 ++ x) (replicate-append-replicate 3048 3072 0))
 
--- add to the fresh block
-pub add-printed : commandOutcome current (command (Add (tag 0 0)) 0x1000 0x1000) (freshPrinted ++ replicate 6144 0) ≡ outcome 0 (addPrinted ++ replicate 6120 0)
+first-two : blockBytes current (withList freshContents Memory first) ≡ addPrinted 0x02 0x00 0x02 ++ replicate 15336 0
+unfolding blockBytes headerBytes entriesBytes entryBytes settingsBytes totalsBytes tableBytes regionsBytes regionBytes capacity offset bytes
+first-two = rw (first-total, total-empty) (ap (λ (x : List ℕ). addPrinted 0x02 0x00 0x02 ++ x) (replicate-append-replicate 3048 12288 0))
+
+-- document 01's add to the fresh block
+pub add-one : commandOutcome editionOne (command (Add (tag 0 0)) 0x1000 0x1000) (freshPrinted 0x01 0x80 0x00 ++ replicate 6144 0) ≡ outcome 0 (addPrinted 0x01 0x80 0x00 ++ replicate 6120 0)
+unfolding commandOutcome store legalTag capacity
+add-one =
+    let s = fresh-spellable-one in
+    rw (
+      ← fresh-one,
+      good-spelled-block editionOne small-one freshContents s,
+      contents-spelled editionOne small-one freshContents s,
+      first-changed,
+      first-one,
+    )
+
+-- and on the block that the commands work on
+pub add-printed : commandOutcome current (command (Add (tag 0 0)) 0x1000 0x1000) (freshPrinted 0x02 0x00 0x02 ++ replicate 15360 0) ≡ outcome 0 (addPrinted 0x02 0x00 0x02 ++ replicate 15336 0)
 unfolding commandOutcome store legalTag capacity
 add-printed =
     let s = fresh-spellable in
     rw (
-      ← fresh-block,
+      ← fresh-two,
       good-spelled-block current small-current freshContents s,
       contents-spelled current small-current freshContents s,
       first-changed,
-      first-block,
+      first-two,
     )

@@ -1,3 +1,4 @@
 // The commands on the tables of a block.
 pub mod commands;
+pub mod convert;
 pub mod range;

@@ -27,6 +27,7 @@ impl Rec {
 /// What is to be written; nothing says that it is good.
 #[derive(Clone, Debug)]
 pub struct Draft {
+    pub layout: &'static Layout,
     pub memory: Vec<Rec>,
     pub taken: Vec<Rec>,
     pub limit: u64,
@@ -58,7 +59,7 @@ pub fn put_rec(bytes: &mut [u8], at: usize, rec: &Rec) {
 
 /// The records that the counts of a block name, good or not.
 pub fn read_recs(bytes: &[u8], body: &Body) -> Vec<Rec> {
-    if bytes.len() < BLOCK_LEN {
+    if bytes.len() < body.offset + body.capacity * RECORD_LEN {
         return Vec::new();
     }
     let count = (get_u32(bytes, body.entry + 8) as usize).min(body.capacity);
@@ -78,12 +79,13 @@ pub fn read_recs(bytes: &[u8], body: &Body) -> Vec<Rec> {
 impl Draft {
     /// The bytes, with counts and totals as the records stand.
     pub fn bytes(&self) -> Vec<u8> {
-        let mut bytes = vec![0; BLOCK_LEN];
-        put_u32(&mut bytes, 0, EDITION);
+        let mut bytes = vec![0; self.layout.length()];
+        put_u32(&mut bytes, 0, self.layout.edition);
         put_u32(&mut bytes, 4, BODIES);
         put_u64(&mut bytes, LIMIT_AT, self.limit);
         put_u32(&mut bytes, DIRECTION_AT, self.direction);
-        for (body, list) in [(&MEMORY, &self.memory), (&TAKEN, &self.taken)] {
+        let lists = [&self.memory, &self.taken];
+        for (body, list) in [self.body(false), self.body(true)].into_iter().zip(lists) {
             put_u32(&mut bytes, body.entry, body.kind);
             put_u32(&mut bytes, body.entry + 4, body.offset as u32);
             put_u32(&mut bytes, body.entry + 8, list.len() as u32);
@@ -96,6 +98,20 @@ impl Draft {
             put_u64(&mut bytes, body.total_at, total);
         }
         bytes
+    }
+
+    fn body(&self, taken: bool) -> &'static Body {
+        if taken {
+            &self.layout.taken
+        } else {
+            &self.layout.memory
+        }
+    }
+
+    /// Drops the last record of a full list.
+    fn make_room(&mut self, taken: bool) {
+        let most = self.body(taken).capacity;
+        self.list(taken).truncate(most - 1);
     }
 
     fn list(&mut self, taken: bool) -> &mut Vec<Rec> {
@@ -229,7 +245,7 @@ fn some_taken(rng: &mut Rng, count: usize, memory: &[Rec]) -> Vec<Rec> {
 }
 
 /// A good block with these numbers of records.
-pub fn good(rng: &mut Rng, memory: usize, taken: usize) -> Draft {
+pub fn good(rng: &mut Rng, layout: &'static Layout, memory: usize, taken: usize) -> Draft {
     let memory = some_memory(rng, memory);
     let taken = some_taken(rng, taken, &memory);
     let limit = match rng.below(8) {
@@ -242,6 +258,7 @@ pub fn good(rng: &mut Rng, memory: usize, taken: usize) -> Draft {
         _ => u64::MAX,
     };
     Draft {
+        layout,
         memory,
         taken,
         limit,
@@ -249,21 +266,23 @@ pub fn good(rng: &mut Rng, memory: usize, taken: usize) -> Draft {
     }
 }
 
-/// A fill that is small, anything, or full or nearly so.
+/// A fill that is small, anything, or full or nearly so; of a large table, whose
+/// calls take longer, more often small.
 pub fn some_fill(rng: &mut Rng, body: &Body) -> usize {
-    match rng.below(8) {
-        0..=3 => rng.index(9),
-        4 | 5 => rng.index(body.capacity + 1),
-        6 => body.capacity,
-        _ => body.capacity - rng.index(4),
+    let odds = if body.capacity > 128 { 16 } else { 8 };
+    match rng.below(odds) {
+        0 | 1 => rng.index(body.capacity + 1),
+        2 => body.capacity,
+        3 => body.capacity - rng.index(4),
+        _ => rng.index(9),
     }
 }
 
 /// A good block with fills of this kind.
-pub fn some_good(rng: &mut Rng) -> Draft {
-    let memory = some_fill(rng, &MEMORY);
-    let taken = some_fill(rng, &TAKEN);
-    good(rng, memory, taken)
+pub fn some_good(rng: &mut Rng, layout: &'static Layout) -> Draft {
+    let memory = some_fill(rng, &layout.memory);
+    let taken = some_fill(rng, &layout.taken);
+    good(rng, layout, memory, taken)
 }
 
 /// The ways of damaging a block. `certain` ones never leave a good block.
@@ -329,6 +348,7 @@ impl Damage {
 
     /// A damaged block made from a good one.
     pub fn done_to(self, rng: &mut Rng, mut draft: Draft) -> Vec<u8> {
+        let length = draft.layout.length();
         match self {
             Damage::Word(at) => {
                 let mut bytes = draft.bytes();
@@ -358,7 +378,7 @@ impl Damage {
             }
             Damage::Count(taken) => {
                 let mut bytes = draft.bytes();
-                let body = if taken { &TAKEN } else { &MEMORY };
+                let body = draft.body(taken);
                 let at = body.entry + 8;
                 let most = body.capacity as u32;
                 let old = get_u32(&bytes, at);
@@ -382,9 +402,9 @@ impl Damage {
                 draft.bytes()
             }
             Damage::Twice(taken) => {
+                draft.make_room(taken);
                 let list = draft.list(taken);
                 at_least(list, 1);
-                make_room(list, taken);
                 let i = rng.index(list.len());
                 let rec = list[i];
                 list.insert(i, rec);
@@ -407,9 +427,9 @@ impl Damage {
                 draft.bytes()
             }
             Damage::TouchEqual(taken) => {
+                draft.make_room(taken);
                 let list = draft.list(taken);
                 at_least(list, 1);
-                make_room(list, taken);
                 let i = rng.index(list.len());
                 if list[i].size < 2 {
                     // Grow it downwards or upwards; any overlap is bad as well.
@@ -432,8 +452,8 @@ impl Damage {
                 draft.bytes()
             }
             Damage::Empty(taken) => {
+                draft.make_room(taken);
                 let list = draft.list(taken);
-                make_room(list, taken);
                 let i = rng.index(list.len() + 1);
                 let (flags, node) = if taken { (0, 0) } else { some_tag(rng) };
                 // At the end of the record before, or somewhere between.
@@ -499,11 +519,10 @@ impl Damage {
                 draft.bytes()
             }
             Damage::Tail(taken) => {
-                let list = draft.list(taken);
-                make_room(list, taken);
-                let count = list.len();
+                draft.make_room(taken);
+                let count = draft.list(taken).len();
                 let mut bytes = draft.bytes();
-                let body = if taken { &TAKEN } else { &MEMORY };
+                let body = draft.body(taken);
                 let from = body.offset + count * RECORD_LEN;
                 let to = body.offset + body.capacity * RECORD_LEN;
                 let at = match rng.below(4) {
@@ -541,7 +560,7 @@ impl Damage {
             }
             Damage::Shifted => {
                 let mut bytes = draft.bytes();
-                let by = 1 + rng.index(BLOCK_LEN - 1);
+                let by = 1 + rng.index(length - 1);
                 bytes.rotate_left(by);
                 // A rotation by whole zero records could be the same block.
                 bytes[0] = 0;
@@ -549,11 +568,11 @@ impl Damage {
             }
             Damage::ByteFlip => {
                 let mut bytes = draft.bytes();
-                let used = MEMORY.offset + draft.memory.len() * RECORD_LEN;
+                let used = draft.body(false).offset + draft.memory.len() * RECORD_LEN;
                 let at = match rng.below(3) {
                     0 => rng.index(80),
                     1 => rng.index(used),
-                    _ => rng.index(BLOCK_LEN),
+                    _ => rng.index(length),
                 };
                 bytes[at] ^= match rng.below(2) {
                     0 => 1 << rng.below(8),
@@ -562,16 +581,16 @@ impl Damage {
                 bytes
             }
             Damage::Garbage => {
-                let mut bytes = rng.bytes(BLOCK_LEN);
-                bytes[0] |= 2;
+                let mut bytes = rng.bytes(length);
+                bytes[0] |= 4;
                 if rng.one_in(2) {
                     // A good head over bad bodies.
                     bytes[..80].copy_from_slice(&draft.bytes()[..80]);
-                    bytes[BLOCK_LEN - 1] |= 1;
+                    bytes[length - 1] |= 1;
                 }
                 bytes
             }
-            Damage::Uniform => vec![rng.pick(&[0, 0xFF, 1, 0x80]); BLOCK_LEN],
+            Damage::Uniform => vec![rng.pick(&[0, 0xFF, 1, 0x80]); length],
         }
     }
 }
@@ -612,10 +631,4 @@ fn at_least(list: &mut Vec<Rec>, n: usize) {
             node: 0,
         });
     }
-}
-
-/// Drops the last record of a full list.
-fn make_room(list: &mut Vec<Rec>, taken: bool) {
-    let body = if taken { &TAKEN } else { &MEMORY };
-    list.truncate(body.capacity - 1);
 }

@@ -19,14 +19,15 @@ pub enum Command {
     Find,
     Allocate,
     Intake,
+    Convert,
 }
 
 use Command::*;
 
 impl Command {
-    pub const ALL: [Command; 13] = [
+    pub const ALL: [Command; 14] = [
         Fresh, Set, Add, Remove, Mark, Unmark, Reserve, Free, Trim, NextFree, Find, Allocate,
-        Intake,
+        Intake, Convert,
     ];
 
     /// The commands that demand 3 speaks of.
@@ -47,13 +48,14 @@ impl Command {
             Find => "memblock_find",
             Allocate => "memblock_allocate",
             Intake => "memblock_intake_e820",
+            Convert => "memblock_convert",
         }
     }
 
-    /// The numbers that document 01 and request E1 allow.
+    /// The numbers that document 01 and requests E1 and E4 allow.
     pub fn allowed(self) -> &'static [u32] {
         match self {
-            Fresh => &[0, 1],
+            Fresh | Convert => &[0, 1],
             Set => &[0, 1, 7],
             Add => &[0, 1, 2, 6],
             Remove | Mark | Unmark | Reserve | Free => &[0, 1, 6],
@@ -108,6 +110,8 @@ pub enum Call {
     Allocate(Wish),
     /// With the report's bytes.
     Intake(Arc<[u8]>),
+    /// With the old block's bytes.
+    Convert(Arc<[u8]>),
 }
 
 impl Call {
@@ -122,13 +126,15 @@ impl Call {
             Call::Find(_) => Find,
             Call::Allocate(_) => Allocate,
             Call::Intake(_) => Intake,
+            Call::Convert(_) => Convert,
         }
     }
 
-    /// The report's bytes, none for other commands.
-    pub fn report(&self) -> &[u8] {
+    /// The bytes that the call only reads, a report or an old block; none for
+    /// other commands.
+    pub fn source(&self) -> &[u8] {
         match self {
-            Call::Intake(report) => report,
+            Call::Intake(source) | Call::Convert(source) => source,
             _ => &[],
         }
     }
@@ -163,6 +169,7 @@ impl Call {
                 ("node", w.node.into()),
             ],
             Call::Intake(ref report) => vec![("report_length", report.len() as u64)],
+            Call::Convert(ref old) => vec![("old_length", old.len() as u64)],
         };
         let numbers: Vec<String> = numbers
             .iter()
@@ -198,14 +205,15 @@ impl Call {
             Call::Find(wish) => model::find(block, &wish, slip),
             Call::Allocate(wish) => model::allocate(block, &wish, slip),
             Call::Intake(ref report) => model::intake_e820(block, report),
+            Call::Convert(ref old) => model::convert(old, block),
         }
     }
 
-    /// The same call on the archive; `report` is lent in the place of its own.
-    pub fn on_archive(&self, block: &mut [u8], slip: &mut [u8], report: &mut [u8]) -> u32 {
+    /// The same call on the archive; `source` is lent in the place of its own.
+    pub fn on_archive(&self, block: &mut [u8], slip: &mut [u8], source: &mut [u8]) -> u32 {
         let (b, len) = (block.as_mut_ptr(), block.len());
         let (s, slip_len) = (slip.as_mut_ptr(), slip.len());
-        let (r, report_len) = (report.as_mut_ptr(), report.len());
+        let (from, from_len) = (source.as_mut_ptr(), source.len());
         // The pointers and lengths name the three buffers above, which share no byte.
         unsafe {
             match *self {
@@ -255,7 +263,8 @@ impl Call {
                     s,
                     slip_len,
                 ),
-                Call::Intake(_) => archive::memblock_intake_e820(b, len, r, report_len),
+                Call::Intake(_) => archive::memblock_intake_e820(b, len, from, from_len),
+                Call::Convert(_) => archive::memblock_convert(from, from_len, b, len),
             }
         }
     }

@@ -1,5 +1,5 @@
-//! The twelve cases of document 01 and those of requests E1 and E3, run through
-//! the archive.
+//! The twelve cases of document 01 and those of requests E1, E3 and E4, run
+//! through the archive.
 
 use crate::blocks::{get_u64, read_recs};
 use crate::call::{Call, Command};
@@ -76,8 +76,17 @@ impl Case<'_> {
         self.does(Call::Intake(report.into()), number);
     }
 
+    fn convert(&mut self, old: &[u8], number: u32) {
+        self.does(Call::Convert(old.into()), number);
+    }
+
     fn turn(&mut self, direction: u32) {
         self.limit(u64::MAX, direction);
+    }
+
+    fn turn_gives(&mut self, number: u32) {
+        let (limit, direction) = (0, TOP_DOWN);
+        self.does(Call::Set { limit, direction }, number);
     }
 
     fn limit(&mut self, limit: u64, direction: u32) {
@@ -159,7 +168,7 @@ fn wish(size: u64, alignment: u64) -> Wish {
 }
 
 pub fn run(desk: &mut Desk) -> u32 {
-    let cases: [fn(&mut Desk); 24] = [
+    let cases: [fn(&mut Desk); 29] = [
         printed,
         one,
         two_and_three,
@@ -184,6 +193,11 @@ pub fn run(desk: &mut Desk) -> u32 {
         limit_and_start,
         limit_and_allocations,
         limit_and_next_free,
+        printed_converted,
+        converted_full,
+        converted_limits,
+        old_blocks_refused,
+        bad_old_blocks,
     ];
     for (turn, case) in cases.iter().enumerate() {
         desk.turn = turn as u64;
@@ -192,15 +206,21 @@ pub fn run(desk: &mut Desk) -> u32 {
     12
 }
 
-/// The block that document 01 prints.
+/// The block that document 01 prints, in the edition of request E4.
 fn printed(desk: &mut Desk) {
     let mut c = Case::new(desk);
     c.add(0x1000, 0x1000, 0);
-    let mut wanted = vec![0u8; BLOCK_LEN];
-    wanted[..104].copy_from_slice(&[
-        0x01, 0, 0, 0, 0x02, 0, 0, 0, // edition, bodies
+    c.expect("printed block", c.block.clone(), printed_bytes(2, 15440));
+}
+
+/// The printed block's bytes in edition 1 or 2, of so many bytes.
+fn printed_bytes(edition: u8, length: usize) -> Vec<u8> {
+    let [low, high] = if edition == 1 { [0x80, 0] } else { [0, 0x02] };
+    let mut block = vec![0u8; length];
+    block[..104].copy_from_slice(&[
+        edition, 0, 0, 0, 0x02, 0, 0, 0, // edition, bodies
         0x01, 0, 0, 0, 0x50, 0, 0, 0, 0x01, 0, 0, 0, 0x80, 0, 0, 0, // memory entry
-        0x02, 0, 0, 0, 0x50, 0x0C, 0, 0, 0, 0, 0, 0, 0x80, 0, 0, 0, // taken entry
+        0x02, 0, 0, 0, 0x50, 0x0C, 0, 0, 0, 0, 0, 0, low, high, 0, 0, // taken entry
         0xFF, 0xFF, 0xFF, 0xFF, 0xFF, 0xFF, 0xFF, 0xFF, // limit
         0, 0, 0, 0, 0, 0, 0, 0, // direction, zero
         0, 0x10, 0, 0, 0, 0, 0, 0, // memory total
@@ -210,7 +230,7 @@ fn printed(desk: &mut Desk) {
         0, 0x10, 0, 0, 0, 0, 0, 0, // size
         0, 0, 0, 0, 0, 0, 0, 0, // flags, node
     ]);
-    c.expect("printed block", c.block.clone(), wanted);
+    block
 }
 
 fn m(desk: &mut Desk) -> Case<'_> {
@@ -567,4 +587,132 @@ fn limit_and_next_free(desk: &mut Desk) {
         c.next_free(0, Ok((0x10000, 0x20000)));
         c.next_free(0x19000, Ok((0x19000, 0x20000)));
     }
+}
+
+/// The edition 1 block that says what a block does, if its taken table fits: the
+/// same bytes up to its end, but for edition and taken capacity.
+fn old_of(block: &[u8]) -> Vec<u8> {
+    let mut old = block[..6224].to_vec();
+    old[0] = 1;
+    old[36..40].copy_from_slice(&[0x80, 0, 0, 0]);
+    old
+}
+
+/// Document 01's printed block becomes the same in edition 2, and a fresh block a
+/// fresh one, whatever stood there.
+fn printed_converted(desk: &mut Desk) {
+    let mut c = Case::new(desk);
+    let fresh = c.block.clone();
+    for byte in [0, 0xFF, 0xA5] {
+        c.block.fill(byte);
+        c.convert(&printed_bytes(1, 6224), 0);
+        c.expect("converted", c.block.clone(), printed_bytes(2, 15440));
+        c.convert(&old_of(&fresh), 0);
+        c.expect("converted", c.block.clone(), fresh.clone());
+    }
+}
+
+/// Both tables full as edition 1 had them; then there is room for taken records.
+fn converted_full(desk: &mut Desk) {
+    let mut c = Case::new(desk);
+    for i in 0..128 {
+        let call = Call::Add {
+            base: 0x1000 * i,
+            size: 0x1000,
+            flags: if i % 3 == 0 { NO_MAP } else { 0 },
+            node: i as u32 % NODES,
+        };
+        c.does(call, 0);
+        c.range(Command::Reserve, 0x2000 * i, 0x100, 0);
+    }
+    let full = c.block.clone();
+    c.block.fill(0xA5);
+    c.convert(&old_of(&full), 0);
+    c.expect("converted", c.block.clone(), full);
+    c.range(Command::Reserve, 0x100_0000, 1, 0);
+    c.count(&TAKEN, 129);
+    c.add_gives(0x100_0000, 1, 0, 6);
+}
+
+/// Limit and direction are kept.
+fn converted_limits(desk: &mut Desk) {
+    let mut c = four_tables(desk);
+    for limit in [0, 1, 0x18000, u64::MAX] {
+        for direction in [TOP_DOWN, BOTTOM_UP] {
+            c.limit(limit, direction);
+            let wanted = c.block.clone();
+            c.block.fill(0x5A);
+            c.convert(&old_of(&wanted), 0);
+            c.expect("converted", c.block.clone(), wanted);
+        }
+    }
+}
+
+/// Other lengths, and every other command on an edition 1 block.
+fn old_blocks_refused(desk: &mut Desk) {
+    let old = printed_bytes(1, 6224);
+    for length in [0, 1, 6223, 6224, 6225, 15439, 15441] {
+        let mut c = Case::new(desk);
+        c.block.resize(length, 0x3C);
+        let before = c.block.clone();
+        c.convert(&old, 1);
+        c.expect("block", c.block.clone(), before);
+    }
+    let mut c = Case::new(desk);
+    for length in [0, 1, 6223, 6225, 15439, 15440] {
+        c.convert(&printed_bytes(1, length.max(104))[..length], 1);
+    }
+    c.convert(&printed_bytes(2, 15440), 1);
+    c.convert(&printed_bytes(2, 6224), 1);
+
+    c.block = old.clone();
+    c.does(Call::Fresh, 1);
+    c.turn_gives(1);
+    c.add_gives(0, 0, 0, 1);
+    for command in [
+        Command::Remove,
+        Command::Mark,
+        Command::Unmark,
+        Command::Reserve,
+        Command::Free,
+    ] {
+        c.range(command, 0x1000, 0x1000, 1);
+    }
+    c.does(Call::Trim { alignment: 1 }, 1);
+    c.next_free(0, Err(1));
+    c.find(1, 1, Err(1));
+    c.allocate(1, 1, Err(1));
+    c.intake(&[], 1);
+    c.expect("block", c.block.clone(), old);
+}
+
+/// A word of an edition 1 block that is another.
+fn bad_old_blocks(desk: &mut Desk) {
+    let mut c = four_tables(desk);
+    let old = old_of(&c.block);
+    for (at, word) in [
+        (0, 2u32),
+        (4, 1),
+        (16, 0),
+        (16, 129),
+        (32, 129),
+        (36, 127),
+        (36, 512),
+        (48, 2),
+        (52, 1),
+        (56, 0),
+        (72, 1),
+        (96, 1),
+        (96, 2),
+        (96, 8),
+        (100, 64),
+        (104, 1),
+        (3152 + 16, 4),
+        (6220, 1),
+    ] {
+        let mut bad = old.clone();
+        bad[at..at + 4].copy_from_slice(&word.to_le_bytes());
+        c.convert(&bad, 1);
+    }
+    c.convert(&old, 0);
 }

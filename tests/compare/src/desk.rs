@@ -4,7 +4,7 @@
 use crate::blocks::{get_u32, get_u64, read_recs};
 use crate::call::{Call, Command};
 use crate::limits::Sides;
-use model::layout::{MEMORY, REPORT_ENTRY_LEN, TAKEN};
+use model::layout::{Body, EDITION_1, MEMORY, REPORT_ENTRY_LEN, TAKEN};
 use std::sync::atomic::{AtomicU64, Ordering};
 use std::sync::Mutex;
 use std::time::Duration;
@@ -151,7 +151,7 @@ pub struct Desk {
     pub sides: Sides,
     block_room: Lent,
     slip_room: Lent,
-    report_room: Lent,
+    source_room: Lent,
 }
 
 impl Desk {
@@ -166,7 +166,7 @@ impl Desk {
             sides: Sides::default(),
             block_room: Lent::new(),
             slip_room: Lent::new(),
-            report_room: Lent::new(),
+            source_room: Lent::new(),
         }
     }
 
@@ -190,14 +190,14 @@ impl Desk {
         };
         self.block_room.fill(block, self.calls);
         self.slip_room.fill(slip, self.calls.wrapping_mul(7) + 3);
-        self.report_room
-            .fill(call.report(), self.calls.wrapping_mul(5) + 1);
+        self.source_room
+            .fill(call.source(), self.calls.wrapping_mul(5) + 1);
 
         *NOW.lock().expect("never poisoned") = Some(place.clone());
         let got = call.on_archive(
             self.block_room.bytes(),
             self.slip_room.bytes(),
-            self.report_room.bytes(),
+            self.source_room.bytes(),
         );
         *NOW.lock().expect("never poisoned") = None;
         DONE.store(self.calls, Ordering::Relaxed);
@@ -222,10 +222,10 @@ impl Desk {
             ("block", &mut self.block_room, &*block, &before[..]),
             ("slip", &mut self.slip_room, &*slip, &slip_before),
             (
-                "report",
-                &mut self.report_room,
-                call.report(),
-                call.report(),
+                "report or old block",
+                &mut self.source_room,
+                call.source(),
+                call.source(),
             ),
         ] {
             if let Some(at) = room.broken() {
@@ -248,7 +248,11 @@ impl Desk {
             eprintln!("{}", place.text());
             eprint!("{wrong}");
             eprintln!("{}", describe(&before));
-            eprint!("{}", entries(call.report()));
+            match command {
+                Command::Intake => eprint!("{}", entries(call.source())),
+                Command::Convert => eprintln!("{}", describe_old(call.source())),
+                _ => {}
+            }
             std::process::exit(1);
         }
         self.pairs[command as usize][got as usize] += 1;
@@ -286,7 +290,23 @@ fn describe(block: &[u8]) -> String {
         Some(_) => "good",
         None => "not good",
     };
-    let mut text = format!("  the block before the call was {state}");
+    let text = format!("  the block before the call was {state}");
+    text + &contents(block, [&MEMORY, &TAKEN])
+}
+
+/// The old block of a conversion, in words.
+fn describe_old(old: &[u8]) -> String {
+    let state = match model::Board::read_edition_1(old) {
+        Some(_) => "good",
+        None => "not good",
+    };
+    let text = format!("  the old block was {state}");
+    text + &contents(old, [&EDITION_1.memory, &EDITION_1.taken])
+}
+
+/// A block's first bytes and records, a line each.
+fn contents(block: &[u8], bodies: [&Body; 2]) -> String {
+    let mut text = String::new();
     if block.len() >= 80 {
         let head: Vec<String> = block[..80]
             .chunks(4)
@@ -294,7 +314,7 @@ fn describe(block: &[u8]) -> String {
             .collect();
         text += &format!("\n  its first 80 bytes: {}", head.join(" "));
     }
-    for (what, body) in [("memory", &MEMORY), ("taken", &TAKEN)] {
+    for (what, body) in ["memory", "taken"].into_iter().zip(bodies) {
         let list = read_recs(block, body);
         text += &format!("\n  {what} records: {}", list.len());
         for rec in list.iter().take(6) {

@@ -128,6 +128,7 @@ pub fn predicted(start: &[u8], done: &[Call]) -> Option<Vec<u8>> {
         .cloned()
         .partition(|call| call.command().on_taken());
     let draft = Draft {
+        layout: &CURRENT,
         memory: predicted_table(&read_recs(start, &MEMORY), &on_memory),
         taken: predicted_table(&read_recs(start, &TAKEN), &on_taken),
         limit: get_u64(start, LIMIT_AT),
@@ -276,7 +277,7 @@ pub fn run(desk: &mut Desk, until: u64) -> Tally {
             5 => (most, most_taken),
             _ => (some_fill(rng, &MEMORY), some_fill(rng, &TAKEN)),
         };
-        let start = blocks::good(rng, m, t).bytes();
+        let start = blocks::good(rng, &CURRENT, m, t).bytes();
         let near = Near::to(&start);
         let list = some_list(rng, &near, &there);
         tally.lists += 1;

@@ -1,11 +1,12 @@
 //! Calls the archive and the model on equal bytes and compares the number and
-//! every byte of block, slip and report. See README.md.
+//! every byte of block, slip, report and old block. See README.md.
 
 mod archive;
 mod blocks;
 mod call;
 mod cases;
 mod desk;
+mod editions;
 mod limits;
 mod lists;
 mod numbers;
@@ -27,8 +28,8 @@ const CALLS_PER_PAIR: u64 = 50;
 const CALLS_PER_REPORT_PAIR: u64 = 5;
 
 /// In the order of a whole run: what finds most in few calls comes first.
-const PARTS: [&str; 8] = [
-    "cases", "faults", "lengths", "damage", "fills", "lists", "orders", "walks",
+const PARTS: [&str; 9] = [
+    "cases", "faults", "lengths", "editions", "damage", "fills", "lists", "orders", "walks",
 ];
 
 struct Options {
@@ -129,13 +130,14 @@ fn main() {
             "cases" => {
                 let cases = cases::run(desk);
                 println!(
-                    "cases: all {cases} of document 01 and those of requests E1 and E3, {} calls",
+                    "cases: all {cases} of document 01 and those of requests E1, E3 and E4, {} calls",
                     desk.calls
                 );
             }
             "lists" => lists(desk, options.share(18)),
             "orders" => orders(desk, options.share(4)),
             "lengths" => lengths(desk, &there, options.share(4)),
+            "editions" => editions(desk, &there, options.share(3)),
             "damage" => damage(desk, &there, options.share(14)),
             "faults" => faults(desk, &there, options.share(8)),
             "fills" => fills(desk, &there, options.share(26)),
@@ -295,12 +297,15 @@ fn lengths(desk: &mut Desk, there: &[Command], calls: u64) {
     while desk.calls < before + calls {
         let mut rng = next_turn(desk);
         let rng = &mut rng;
-        let good = blocks::some_good(rng).bytes();
+        let layout = rng.pick(&[&CURRENT, &CURRENT, &EDITION_1]);
+        let good = blocks::some_good(rng, layout).bytes();
         let near = Near::to(&good);
         for &command in there {
             let len = match rng.below(4) {
                 0 => rng.pick(&[0, 1, 79, 80, BLOCK_LEN - 1, BLOCK_LEN + 1]),
+                1 if layout.edition != EDITION => rng.pick(&[good.len(), BLOCK_LEN]),
                 1 => rng.pick(&[
+                    EDITION_1.length(),
                     81,
                     TAKEN.offset - 1,
                     TAKEN.offset,
@@ -327,6 +332,24 @@ fn lengths(desk: &mut Desk, there: &[Command], calls: u64) {
     );
 }
 
+/// Edition 1 blocks.
+fn editions(desk: &mut Desk, there: &[Command], calls: u64) {
+    let before = desk.calls;
+    let tally = editions::run(desk, there, before + calls);
+    let (fill, damage) = tally.rarest();
+    println!(
+        "editions: {} calls on {} edition 1 blocks, memory counts 0 to {} and taken counts 0 to {} \
+         each met {fill} times at least, {} kinds of damage each {damage} times; {} calls of other \
+         commands refused",
+        desk.calls - before,
+        desk.turn,
+        EDITION_1.memory.capacity,
+        EDITION_1.taken.capacity,
+        tally.refused.len(),
+        tally.others,
+    );
+}
+
 /// Each kind of damage, on each command.
 fn damage(desk: &mut Desk, there: &[Command], calls: u64) {
     let before = desk.calls;
@@ -337,7 +360,7 @@ fn damage(desk: &mut Desk, there: &[Command], calls: u64) {
         let rng = &mut rng;
         let which = desk.turn as usize % kinds.len();
         let kind = kinds[which];
-        let draft = blocks::some_good(rng);
+        let draft = blocks::some_good(rng, &CURRENT);
         let bytes = kind.done_to(rng, draft);
         let near = Near::to(&bytes);
         let good = model::Board::read(&bytes).is_some();
@@ -371,7 +394,7 @@ fn faults(desk: &mut Desk, there: &[Command], calls: u64) {
     while desk.calls < before + calls {
         let mut rng = next_turn(desk);
         let rng = &mut rng;
-        let draft = blocks::some_good(rng);
+        let draft = blocks::some_good(rng, &CURRENT);
         let bytes = if rng.one_in(5) {
             rng.pick(&kinds).done_to(rng, draft)
         } else {
@@ -402,13 +425,13 @@ fn fills(desk: &mut Desk, there: &[Command], calls: u64) {
         let turn = desk.turn as usize;
         let (m, t) = match turn % 4 {
             0 => (turn / 4 % met[0].len(), blocks::some_fill(rng, &TAKEN)),
-            1 => (blocks::some_fill(rng, &MEMORY), turn / 4 % met[1].len()),
+            1 | 3 => (blocks::some_fill(rng, &MEMORY), turn / 2 % met[1].len()),
             _ => (
                 blocks::some_fill(rng, &MEMORY),
                 blocks::some_fill(rng, &TAKEN),
             ),
         };
-        let bytes = blocks::good(rng, m, t).bytes();
+        let bytes = blocks::good(rng, &CURRENT, m, t).bytes();
         if model::Board::read(&bytes).is_none() {
             desk.fail("the model takes a good block for a bad one");
         }
@@ -416,9 +439,10 @@ fn fills(desk: &mut Desk, there: &[Command], calls: u64) {
         met[1][t] += 1;
         let near = Near::to(&bytes);
         for &command in there {
-            // Fresh and set do not look at the fill; searches have most to try.
+            // Fresh, set and convert do not look at the fill; searches have most to
+            // try.
             let times = match command {
-                Command::Fresh | Command::Set => 1,
+                Command::Fresh | Command::Set | Command::Convert => 1,
                 Command::NextFree | Command::Find | Command::Allocate => 4,
                 _ => 2,
             };
@@ -452,7 +476,7 @@ fn walks(desk: &mut Desk, calls: u64) {
             desk.call(&call::Call::Fresh, &mut block, &mut []);
             block
         } else {
-            blocks::some_good(rng).bytes()
+            blocks::some_good(rng, &CURRENT).bytes()
         };
         let mut near = Near::to(&block);
         for _ in 0..60 {
@@ -465,10 +489,11 @@ fn walks(desk: &mut Desk, calls: u64) {
             let mut slip = slip(rng, 2);
             let mut next = block.clone();
             desk.call(&call, &mut next, &mut slip);
-            // Fresh, coarse trims and those of intakes would end most walks: try
-            // them on a copy.
+            // Fresh, conversions, coarse trims and those of intakes would end most
+            // walks: try them on a copy.
             let keep = match call {
                 call::Call::Fresh => rng.one_in(20),
+                call::Call::Convert(_) => rng.one_in(8),
                 call::Call::Trim { alignment } => alignment <= 4096 || rng.one_in(8),
                 call::Call::Intake(_) => rng.one_in(3),
                 call::Call::Range { size, .. } => size < 1 << 62 || rng.one_in(4),

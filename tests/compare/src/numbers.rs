@@ -2,6 +2,7 @@
 
 use crate::blocks::{get_u64, read_recs};
 use crate::call::{Call, Command};
+use crate::editions;
 use crate::reports;
 use crate::rng::Rng;
 use model::layout::*;
@@ -259,6 +260,7 @@ impl Near {
             Command::Find => Call::Find(self.wish(rng, faults)),
             Command::Allocate => Call::Allocate(self.wish(rng, faults)),
             Command::Intake => Call::Intake(reports::some(rng, self, faults).into()),
+            Command::Convert => Call::Convert(editions::some_old(rng, faults).into()),
             _ => {
                 let (base, size) = self.range(rng);
                 Call::Range {

@@ -112,6 +112,7 @@ fn predicted(start: &[u8], entries: &[Entry]) -> Option<Vec<u8>> {
         .filter_map(whole_pages)
         .collect();
     let draft = Draft {
+        layout: &CURRENT,
         memory,
         taken: read_recs(start, &TAKEN),
         limit: get_u64(start, LIMIT_AT),
@@ -139,7 +140,7 @@ fn start_block(rng: &mut Rng) -> Vec<u8> {
         _ => MEMORY.capacity - rng.index(4),
     };
     let taken = rng.index(6);
-    let mut draft = blocks::good(rng, memory, taken);
+    let mut draft = blocks::good(rng, &CURRENT, memory, taken);
     if rng.percent(60) {
         draft.memory = plain(draft.memory);
     }

@@ -99,15 +99,29 @@ impl Board {
     /// What is written is always a good block, so bytes are good exactly when
     /// the meaning read from them is written as the same bytes again.
     pub fn read(block: &[u8]) -> Option<Board> {
-        if block.len() != BLOCK_LEN {
+        Board::read_as(&CURRENT, block)
+    }
+
+    /// The same of an edition 1 block, by document 01: what later requests let a
+    /// good block say does not count. Flags are 0 or 4, and the u64 at 72 is 0.
+    pub fn read_edition_1(old: &[u8]) -> Option<Board> {
+        let board = Board::read_as(&EDITION_1, old)?;
+        let flags = |record: (u64, u64, u32, u32)| EDITION_1_FLAGS.contains(&record.2);
+        let by_document_01 =
+            records(old, &EDITION_1.memory)?.all(flags) && long(old, ZERO_LONG_AT) == 0;
+        by_document_01.then_some(board)
+    }
+
+    fn read_as(layout: &Layout, block: &[u8]) -> Option<Board> {
+        if block.len() != layout.length() {
             return None;
         }
         let mut tags = Vec::new();
-        for (base, size, flags, node) in records(block, &MEMORY)? {
+        for (base, size, flags, node) in records(block, &layout.memory)? {
             let (lo, hi) = covered(base, size);
             tags.push((lo, hi, Some(Tag::legal(flags, node)?)));
         }
-        let taken = records(block, &TAKEN)?.map(|(base, size, _, _)| {
+        let taken = records(block, &layout.taken)?.map(|(base, size, _, _)| {
             let (lo, hi) = covered(base, size);
             (lo, hi, true)
         });
@@ -117,13 +131,17 @@ impl Board {
             limit: long(block, LIMIT_AT),
             direction: Direction::named(word(block, DIRECTION_AT))?,
         };
-        (board.write().ok()? == block).then_some(board)
+        (board.write_as(layout).ok()? == block).then_some(board)
     }
 
     /// The one good block that says this, or the number for a table too long.
     pub fn write(&self) -> Result<Vec<u8>, u32> {
-        let mut block = vec![0; BLOCK_LEN];
-        put(&mut block, 0, &EDITION.to_le_bytes());
+        self.write_as(&CURRENT)
+    }
+
+    fn write_as(&self, layout: &Layout) -> Result<Vec<u8>, u32> {
+        let mut block = vec![0; layout.length()];
+        put(&mut block, 0, &layout.edition.to_le_bytes());
         put(&mut block, 4, &BODIES.to_le_bytes());
         put(&mut block, LIMIT_AT, &self.limit.to_le_bytes());
         put(
@@ -135,12 +153,12 @@ impl Board {
             .memory
             .stretches()
             .filter_map(|(lo, hi, tag)| Some((lo, hi, tag?.words())));
-        write_table(&mut block, &MEMORY, memory)?;
+        write_table(&mut block, &layout.memory, memory)?;
         let taken = self
             .taken
             .stretches()
             .filter_map(|(lo, hi, taken)| taken.then_some((lo, hi, (0, 0))));
-        write_table(&mut block, &TAKEN, taken)?;
+        write_table(&mut block, &layout.taken, taken)?;
         Ok(block)
     }
 

@@ -6,7 +6,6 @@ pub const SPACE: u128 = 1 << 64;
 /// Table ranges are cut here, so the last address is never in a table.
 pub const TOP: u128 = SPACE - 1;
 
-pub const EDITION: u32 = 1;
 pub const BODIES: u32 = 2;
 
 /// Where one table's entry and records stand in the block.
@@ -21,28 +20,62 @@ pub struct Body {
 
 pub const RECORD_LEN: usize = 24;
 
-pub const MEMORY: Body = Body {
-    kind: 1,
-    entry: 8,
-    offset: 80,
-    capacity: 128,
-    total_at: 56,
-};
+/// The parts of a block that differ from edition to edition.
+#[derive(Clone, Copy, Debug)]
+pub struct Layout {
+    pub edition: u32,
+    pub memory: Body,
+    pub taken: Body,
+}
 
-pub const TAKEN: Body = Body {
-    kind: 2,
-    entry: 24,
-    offset: MEMORY.offset + MEMORY.capacity * RECORD_LEN,
-    capacity: 128,
-    total_at: 64,
-};
+impl Layout {
+    /// An edition with this much room for memory records and for taken ones.
+    const fn new(edition: u32, memory: usize, taken: usize) -> Layout {
+        let memory = Body {
+            kind: 1,
+            entry: 8,
+            offset: 80,
+            capacity: memory,
+            total_at: 56,
+        };
+        let taken = Body {
+            kind: 2,
+            entry: 24,
+            offset: memory.offset + memory.capacity * RECORD_LEN,
+            capacity: taken,
+            total_at: 64,
+        };
+        Layout {
+            edition,
+            memory,
+            taken,
+        }
+    }
+
+    /// The bytes of a block.
+    pub const fn length(&self) -> usize {
+        self.taken.offset + self.taken.capacity * RECORD_LEN
+    }
+}
+
+/// Document 01's block, which only convert reads.
+pub const EDITION_1: Layout = Layout::new(1, 128, 128);
+/// The flags of an edition 1 block's memory records, whatever later requests
+/// allow in others.
+pub const EDITION_1_FLAGS: [u32; 2] = [0, 4];
+
+/// The block of all commands, since request E4.
+pub const CURRENT: Layout = Layout::new(2, 128, 512);
+pub const EDITION: u32 = CURRENT.edition;
+pub const MEMORY: Body = CURRENT.memory;
+pub const TAKEN: Body = CURRENT.taken;
+pub const BLOCK_LEN: usize = CURRENT.length();
 
 pub const LIMIT_AT: usize = 40;
 pub const DIRECTION_AT: usize = 48;
 pub const ZERO_WORD_AT: usize = 52;
 pub const ZERO_LONG_AT: usize = 72;
 
-pub const BLOCK_LEN: usize = TAKEN.offset + TAKEN.capacity * RECORD_LEN;
 pub const SLIP_LEN: usize = 16;
 
 /// The limit of a fresh block.

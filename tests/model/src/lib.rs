@@ -1,6 +1,6 @@
 //! A second program for the memory tables of document 01, the E820 intake of
-//! request E1 and the limit of request E3, written from those pages alone, to be
-//! compared with the library call by call.
+//! request E1, the limit of request E3 and the larger block of request E4, written
+//! from those pages alone, to be compared with the library call by call.
 //!
 //! It shares no idea with a program that walks tables of records: a table is a
 //! map from boundary points to states, a search looks at whole free runs and
@@ -34,6 +34,14 @@ pub fn fresh(block: &mut [u8]) -> u32 {
         return NOT_GOOD;
     }
     settle(block, Ok(Board::fresh()))
+}
+
+/// Writes what a good edition 1 block says over any bytes of a block's length.
+pub fn convert(old: &[u8], block: &mut [u8]) -> u32 {
+    if block.len() != BLOCK_LEN {
+        return NOT_GOOD;
+    }
+    settle(block, Board::read_edition_1(old).ok_or(NOT_GOOD))
 }
 
 pub fn set(block: &mut [u8], limit: u64, direction: u32) -> u32 {

@@ -1,6 +1,6 @@
 //! The second program against a third that knows single addresses only.
 //!
-//! A toy is a window of 420 addresses somewhere in the 64-bit space, each with
+//! A toy is a window of 1420 addresses somewhere in the 64-bit space, each with
 //! its own state. Every command is done address by address, eligibility is
 //! tried address by address straight from the definition, and the block is put
 //! together here with code of its own. For intakes a place of the window is a
@@ -8,7 +8,11 @@
 
 use model::Wish;
 
-const WINDOW: usize = 420;
+const WINDOW: usize = 1420;
+/// The most records of memory, and of what is taken.
+const MOST: [u64; 2] = [128, 512];
+/// The same in edition 1.
+const OLD_MOST: [u64; 2] = [128, 128];
 const LAST: u128 = u64::MAX as u128;
 const ANY: u32 = u32::MAX;
 
@@ -91,16 +95,25 @@ impl Toy {
 
     /// The block, or `None` if a table is too long.
     fn block(&self) -> Option<Vec<u8>> {
+        self.block_of(2, MOST)
+    }
+
+    /// The same in edition 1.
+    fn old_block(&self) -> Option<Vec<u8>> {
+        self.block_of(1, OLD_MOST)
+    }
+
+    fn block_of(&self, edition: u8, most: [u64; 2]) -> Option<Vec<u8>> {
         let mut head: Vec<u8> = Vec::new();
         let mut bodies: Vec<u8> = Vec::new();
         let mut totals: Vec<u8> = Vec::new();
-        head.extend([1, 0, 0, 0, 2, 0, 0, 0]);
-        for (kind, groups) in [1u32, 2].into_iter().zip(self.tables()) {
-            if groups.len() > 128 {
+        head.extend([edition, 0, 0, 0, 2, 0, 0, 0]);
+        for ((kind, groups), most) in [1u32, 2].into_iter().zip(self.tables()).zip(most) {
+            if groups.len() as u64 > most {
                 return None;
             }
             let offset = 80 + (kind - 1) * 3072;
-            for word in [kind, offset, groups.len() as u32, 128] {
+            for word in [kind, offset, groups.len() as u32, most as u32] {
                 head.extend(word.to_le_bytes());
             }
             let mut total = 0u64;
@@ -113,7 +126,7 @@ impl Toy {
                 body.extend(flags.to_le_bytes());
                 body.extend(node.to_le_bytes());
             }
-            body.resize(128 * 24, 0);
+            body.resize(most as usize * 24, 0);
             bodies.extend(body);
             totals.extend(total.to_le_bytes());
         }
@@ -291,8 +304,9 @@ fn teeth(rng: &mut Rng, count: u64, gap: usize) -> Vec<(usize, usize)> {
     teeth
 }
 
-/// An empty toy, one of a few long records, or one whose tables are often full.
-fn start_toy(rng: &mut Rng, origin: u128) -> Toy {
+/// An empty toy, one of a few long records, or one whose tables are often full
+/// with the most records there may be.
+fn start_toy(rng: &mut Rng, origin: u128, most: [u64; 2]) -> Toy {
     let mut toy = Toy::new(origin, WINDOW);
     toy.direction = rng.below(2) as u32;
     let style = rng.below(8);
@@ -313,11 +327,10 @@ fn start_toy(rng: &mut Rng, origin: u128) -> Toy {
         }
         return toy;
     }
-    let mut fill = || match rng.below(3) {
-        0 => rng.below(129),
-        _ => 128 - rng.below(2),
-    };
-    let (m, t) = (fill(), fill());
+    let [m, t] = most.map(|most| match rng.below(3) {
+        0 => rng.below(most + 1),
+        _ => most - rng.below(2),
+    });
     let touching = rng.one_in(3);
     let tags = [(0, 0), (4, 0), (0, 1), (4, 1)];
     for (k, (lo, hi)) in teeth(rng, m, if touching { 0 } else { 1 })
@@ -327,6 +340,10 @@ fn start_toy(rng: &mut Rng, origin: u128) -> Toy {
         // Neighbours that touch never have the same place in `tags`.
         let tag = tags[(k % 2 + 2 * rng.below(2) as usize) % 4];
         toy.memory[lo..hi].fill(Some(tag));
+    }
+    // Or memory everywhere, so that a search meets all that is taken.
+    if rng.one_in(4) {
+        toy.memory.fill(Some((0, 0)));
     }
     for (lo, hi) in teeth(rng, t, 1) {
         toy.taken[lo..hi].fill(true);
@@ -341,9 +358,12 @@ fn start_toy(rng: &mut Rng, origin: u128) -> Toy {
     toy
 }
 
-/// The place after the first of some group of either table that has an inside.
+/// The place after the first of some group of either table, or of what is not
+/// taken, that has an inside.
 fn inner_place(rng: &mut Rng, toy: &Toy) -> u64 {
     let mut groups = toy.tables().concat();
+    let untaken: Vec<_> = toy.taken.iter().map(|t| (!t).then_some((0, 0))).collect();
+    groups.extend(Toy::groups(&untaken));
     groups.retain(|(first, past, _)| past - first > 2);
     if groups.is_empty() {
         return 0;
@@ -354,8 +374,8 @@ fn inner_place(rng: &mut Rng, toy: &Toy) -> u64 {
 
 fn walk(seed: u64, origin: u128, steps: usize, seen: &mut [[u64; 9]; 12]) {
     let mut rng = Rng(seed);
-    let mut toy = start_toy(&mut rng, origin);
-    let mut block = toy.block().expect("at most 128 records");
+    let mut toy = start_toy(&mut rng, origin, MOST);
+    let mut block = toy.block().expect("no more records than fit");
     assert!(model::Board::read(&block).is_some());
     for step in 0..steps {
         let at_top = origin + WINDOW as u128 > LAST;
@@ -509,7 +529,7 @@ fn random_walks_address_by_address() {
     for seed in 0..600 {
         let origin = [
             4096 - 40,
-            LAST - 400,
+            LAST - 1400,
             0,
             4096 - 200,
             (1 << 63) - 150,
@@ -538,6 +558,64 @@ fn random_walks_address_by_address() {
             );
         }
     }
+}
+
+/// Toys as edition 1 blocks: converted they are the same toy's block, with every
+/// bit of the header changed in turn only where the bit is of limit or direction.
+#[test]
+fn conversions_bit_by_bit() {
+    let any = |rng: &mut Rng| -> Vec<u8> {
+        let byte = rng.next() as u8;
+        vec![byte; 15440]
+    };
+    let mut fills = [0; 2];
+    for seed in 0..300 {
+        let mut rng = Rng(seed);
+        let origin = [4096 - 40, LAST - 1400, 0, 1 << 40][seed as usize % 4];
+        let mut toy = start_toy(&mut rng, origin, OLD_MOST);
+        toy.limit = some_number(&mut rng, &toy);
+        let old = toy.old_block().expect("no more records than fit");
+        let mut said = any(&mut rng);
+        assert_eq!(model::convert(&old, &mut said), 0, "seed {seed}");
+        assert!(said == toy.block().unwrap(), "seed {seed}");
+        for bit in 0..80 * 8 {
+            let mut changed = old.clone();
+            changed[bit / 8] ^= 1 << (bit % 8);
+            let mut wanted = toy.clone();
+            let good = match bit {
+                320..=383 => {
+                    wanted.limit ^= 1 << (bit - 320);
+                    true
+                }
+                384 => {
+                    wanted.direction ^= 1;
+                    true
+                }
+                _ => false,
+            };
+            let before = any(&mut rng);
+            let mut said = before.clone();
+            let number = model::convert(&changed, &mut said);
+            assert_eq!(number, u32::from(!good), "seed {seed} bit {bit}");
+            let wanted = if good {
+                wanted.block().unwrap()
+            } else {
+                before
+            };
+            assert!(said == wanted, "seed {seed} bit {bit}");
+        }
+        // Nothing may stand behind the records.
+        for (table, groups) in toy.tables().iter().enumerate() {
+            fills[table] = fills[table].max(groups.len());
+            let end = 80 + (table + 1) * 3072;
+            for at in (80 + table * 3072 + groups.len() * 24..end).step_by(61) {
+                let mut changed = old.clone();
+                changed[at] = 1;
+                assert_eq!(model::convert(&changed, &mut any(&mut rng)), 1);
+            }
+        }
+    }
+    assert_eq!(fills, [128, 128]);
 }
 
 /// All tables over five addresses around 4096, all small searches on them.

@@ -1,7 +1,7 @@
 //! Document 01's own examples: the printed block, the twelve cases, the table
-//! of numbers on both sides, and the slips already paid for. Then the E820
-//! intake of request E1 and the limit of request E3, each rule on both sides of
-//! its edge.
+//! of numbers on both sides, and the slips already paid for, on the block of
+//! request E4. Then the E820 intake of request E1, the limit of request E3 and
+//! the conversion of request E4, each rule on both sides of its edge.
 
 use model::layout::*;
 use model::Wish;
@@ -136,20 +136,44 @@ fn hex(text: &str) -> Vec<u8> {
 
 #[test]
 fn lengths_of_document_01() {
-    assert_eq!(BLOCK_LEN, 6224);
-    assert_eq!(TAKEN.offset, 3152);
+    assert_eq!(EDITION_1.length(), 6224);
+    assert_eq!(EDITION_1.taken.offset, 3152);
     assert_eq!(SLIP_LEN, 16);
 }
 
 #[test]
-fn printed_block() {
-    let mut want = hex("01000000 02000000 | 01000000 50000000 01000000 80000000 |
+fn lengths_of_request_e4() {
+    assert_eq!(BLOCK_LEN, 15440);
+    assert_eq!(EDITION, 2);
+    assert_eq!((MEMORY.offset, MEMORY.capacity), (80, 128));
+    assert_eq!((TAKEN.offset, TAKEN.capacity), (3152, 512));
+}
+
+/// The block that document 01 prints, in edition 1.
+fn printed_old() -> Vec<u8> {
+    let mut block = hex("01000000 02000000 | 01000000 50000000 01000000 80000000 |
          02000000 500C0000 00000000 80000000 | FFFFFFFFFFFFFFFF 00000000 00000000 |
          0010000000000000 0000000000000000 0000000000000000 |
          0010000000000000 0010000000000000 00000000 00000000");
-    want.extend([0; 6120]);
-    assert_eq!(want.len(), 6224);
-    assert_eq!(memory(&[(0x1000, 0x2000)]), want);
+    block.extend([0; 6120]);
+    assert_eq!(block.len(), 6224);
+    block
+}
+
+/// The same in edition 2.
+fn printed() -> Vec<u8> {
+    let mut block = hex("02000000 02000000 | 01000000 50000000 01000000 80000000 |
+         02000000 500C0000 00000000 00020000 | FFFFFFFFFFFFFFFF 00000000 00000000 |
+         0010000000000000 0000000000000000 0000000000000000 |
+         0010000000000000 0010000000000000 00000000 00000000");
+    block.extend([0; 15336]);
+    assert_eq!(block.len(), 15440);
+    block
+}
+
+#[test]
+fn printed_block() {
+    assert_eq!(memory(&[(0x1000, 0x2000)]), printed());
 }
 
 #[test]
@@ -280,6 +304,41 @@ fn case_11_full_memory_table() {
 }
 
 #[test]
+fn case_11_full_taken_table() {
+    let start = taken_comb();
+    assert_eq!(records(&start, &TAKEN).len(), 512);
+
+    let mut block = start.clone();
+    assert_eq!(model::reserve(&mut block, 0x200_0000, 0x1000), 6);
+    assert_eq!(block, start);
+
+    assert_eq!(model::reserve(&mut block, 0x1000, 0x1000), 0);
+    assert_eq!(records(&block, &TAKEN).len(), 511);
+
+    let mut block = start.clone();
+    assert_eq!(model::free(&mut block, 0x2400, 0x400), 6);
+    assert_eq!(block, start);
+    assert_eq!(model::free(&mut block, 0x2000, 0x1000), 0);
+    assert_eq!(records(&block, &TAKEN).len(), 511);
+}
+
+#[test]
+fn case_11_each_table_by_its_own_capacity() {
+    // A full memory table leaves the taken one its room, and the other way.
+    let mut block = comb();
+    for i in 0..512 {
+        assert_eq!(model::reserve(&mut block, i * 0x2000, 0x1000), 0);
+    }
+    assert_eq!(model::reserve(&mut block, 0x200_0000, 1), 6);
+    assert_eq!(model::add(&mut block, 0x200_0000, 1, 0, 0), 6);
+    let mut block = taken_comb();
+    for i in 0..128 {
+        assert_eq!(model::add(&mut block, i * 0x2000, 0x1000, 0, 0), 0);
+    }
+    assert_eq!(model::add(&mut block, 0x200_0000, 1, 0, 0), 6);
+}
+
+#[test]
 fn case_12_next_free() {
     let block = case_4_tables();
     assert_eq!(next_free(&block, 0x18800, ANY_NODE), Ok((0x19000, 0x20000)));
@@ -291,12 +350,12 @@ fn case_12_next_free() {
 
 #[test]
 fn number_1_fresh_asks_only_for_the_length() {
-    for len in [0, 1, 79, 80, 6223, 6225, 12448] {
+    for len in [0, 1, 79, 80, 6223, 6224, 6225, 15439, 15441, 30880] {
         let mut block = vec![0x3C; len];
         assert_eq!(model::fresh(&mut block), 1);
         assert_eq!(block, vec![0x3C; len]);
     }
-    assert_eq!(fresh().len(), 6224);
+    assert_eq!(fresh().len(), 15440);
 }
 
 /// Every command on one block, with numbers that would be done on a good one.
@@ -345,13 +404,19 @@ fn number_1_every_way_a_block_can_be_bad() {
         block
     };
     let word = |at: usize, x: u32| put(at, &x.to_le_bytes());
-    for len in [0, 1, 79, 80, 6223] {
+    for len in [0, 1, 79, 80, 6223, 6224, 15439] {
         bad("short", &good[..len]);
     }
+    bad("edition 1", &printed_old());
+    bad(
+        "edition 1, longer",
+        &[&printed_old()[..], &[0; 9216]].concat(),
+    );
     bad("long", &[&good[..], &[0]].concat());
     for (at, x) in [
         (0, 0),
-        (0, 2),
+        (0, 1),
+        (0, 3),
         (4, 1),
         (4, 3),
         (8, 2),
@@ -366,8 +431,10 @@ fn number_1_every_way_a_block_can_be_bad() {
         (28, 3153),
         (32, 1),
         (32, 3),
-        (32, 129),
-        (36, 129),
+        (32, 513),
+        (36, 128),
+        (36, 511),
+        (36, 513),
         (48, 2),
         (48, u32::MAX),
         (52, 1),
@@ -384,6 +451,7 @@ fn number_1_every_way_a_block_can_be_bad() {
         (80 + 3 * 24, 1),
         (3152 + 2 * 24 + 20, 1),
         (6220, 1 << 31),
+        (15436, 1 << 31),
     ] {
         bad(&format!("word {x:#x} at {at}"), &word(at, x));
     }
@@ -579,7 +647,7 @@ fn number_6_in_each_command() {
     assert_eq!(block, full);
     assert_eq!(model::reserve(&mut block, 0x1000, 1), 0);
     assert_eq!(model::free(&mut block, 0, 0x1001), 0);
-    assert_eq!(records(&block, &TAKEN).len(), 127);
+    assert_eq!(records(&block, &TAKEN).len(), 511);
 
     let mut block = full.clone();
     assert_eq!(model::add(&mut block, 0x200_0000, 0x1000, 0, 0), 0);
@@ -590,7 +658,7 @@ fn number_6_in_each_command() {
     assert_eq!(allocate(&mut block, &wish(0x1000, 1)), Err(6));
     assert_eq!(model::set(&mut block, u64::MAX, BOTTOM_UP), 0);
     assert_eq!(allocate(&mut block, &wish(0x1000, 1)), Ok((0x1000, 0x2000)));
-    assert_eq!(records(&block, &TAKEN).len(), 127);
+    assert_eq!(records(&block, &TAKEN).len(), 511);
 }
 
 #[test]
@@ -685,8 +753,8 @@ fn slip_counting_before_merging() {
     assert_eq!(model::add(&mut block, 0, 0x10_0000, 0, 0), 0);
     assert_eq!(records(&block, &MEMORY), [(0, 0x10_0000, 0, 0)]);
     let mut block = taken_comb();
-    assert_eq!(model::reserve(&mut block, 0, 0x10_0000), 0);
-    assert_eq!(records(&block, &TAKEN), [(0, 0x10_0000, 0, 0)]);
+    assert_eq!(model::reserve(&mut block, 0, 0x40_0000), 0);
+    assert_eq!(records(&block, &TAKEN), [(0, 0x40_0000, 0, 0)]);
 }
 
 #[test]
@@ -829,7 +897,8 @@ fn intake_first_number_wins() {
     let ragged = [report(&apart), vec![0]].concat();
     for bytes in [report(&too_many), ragged, report(&apart), Vec::new()] {
         assert_eq!(intake(&mut bad, &bytes), 1);
-        assert_eq!(intake(&mut full[..6223].to_vec(), &bytes), 1);
+        assert_eq!(intake(&mut full[..BLOCK_LEN - 1].to_vec(), &bytes), 1);
+        assert_eq!(intake(&mut printed_old(), &bytes), 1);
         assert_eq!(intake(&mut [], &bytes), 1);
     }
     let mut block = full.clone();
@@ -1211,4 +1280,179 @@ fn limit_does_not_bind_next_free() {
         assert_eq!(next_free(&block, 0, ANY_NODE), Ok((0x10000, 0x20000)));
         assert_eq!(next_free(&block, 0x19000, ANY_NODE), Ok((0x19000, 0x20000)));
     }
+}
+
+// Request E4: an edition 1 block converted.
+
+/// Converts; the old block stays as lent, and after a refusal the other too.
+fn convert(old: &[u8], block: &mut [u8]) -> u32 {
+    let (old_before, before) = (old.to_vec(), block.to_vec());
+    let number = model::convert(old, block);
+    assert_eq!(old, old_before);
+    if number != 0 {
+        assert_eq!(number, 1);
+        assert_eq!(block, before);
+    }
+    number
+}
+
+/// The edition 1 block that says what a block does, put together here: the same
+/// bytes up to its end, but for edition and taken capacity.
+fn to_old(block: &[u8]) -> Vec<u8> {
+    assert!(records(block, &TAKEN).len() <= 128);
+    let mut old = block[..6224].to_vec();
+    old[0] = 1;
+    old[36..40].copy_from_slice(&[128, 0, 0, 0]);
+    old
+}
+
+/// Any bytes of a block's length.
+fn any_bytes() -> Vec<u8> {
+    (0..15440u32).map(|i| (i * 29 + 5) as u8).collect()
+}
+
+#[test]
+fn convert_the_printed_block() {
+    assert_eq!(to_old(&printed()), printed_old());
+    for mut block in [any_bytes(), vec![0; 15440], vec![0xFF; 15440], fresh()] {
+        assert_eq!(convert(&printed_old(), &mut block), 0);
+        assert_eq!(block, printed());
+    }
+}
+
+#[test]
+fn convert_a_fresh_block() {
+    let mut old = printed_old();
+    old[16] = 0;
+    old[56..64].fill(0);
+    old[80..].fill(0);
+    let mut block = any_bytes();
+    assert_eq!(convert(&old, &mut block), 0);
+    assert_eq!(block, fresh());
+}
+
+#[test]
+fn convert_keeps_limit_and_direction() {
+    for (limit, direction) in [(0, 0), (1, 1), (0x12345, 0), (u64::MAX, 1)] {
+        let mut wanted = case_4_tables();
+        assert_eq!(model::set(&mut wanted, limit, direction), 0);
+        let mut block = any_bytes();
+        assert_eq!(convert(&to_old(&wanted), &mut block), 0);
+        assert_eq!(block, wanted);
+        assert_eq!((long(&block, 40), word(&block, 48)), (limit, direction));
+    }
+}
+
+#[test]
+fn convert_full_tables() {
+    // 128 records of several tags in memory, 128 taken.
+    let mut wanted = fresh();
+    for i in 0..128 {
+        let (flags, node) = (4 * (i as u32 % 2), i as u32 % 64);
+        assert_eq!(model::add(&mut wanted, i * 0x1000, 0x1000, flags, node), 0);
+        assert_eq!(model::reserve(&mut wanted, i * 0x2000 + 7, 0x100), 0);
+    }
+    let mut block = any_bytes();
+    assert_eq!(convert(&to_old(&wanted), &mut block), 0);
+    assert_eq!(block, wanted);
+    // There was no room in the old table; now there is.
+    assert_eq!(model::reserve(&mut block, 0x200_0000, 1), 0);
+    assert_eq!(records(&block, &TAKEN).len(), 129);
+    assert_eq!(model::add(&mut block, 0x200_0000, 1, 0, 0), 6);
+}
+
+#[test]
+fn convert_1_lengths() {
+    let old = printed_old();
+    for len in [0, 1, 80, 6223, 6224, 6225, 15439, 15441, 30880] {
+        assert_eq!(convert(&old, &mut vec![0x3C; len]), 1);
+    }
+    let mut long_enough = old.clone();
+    long_enough.resize(30880, 0);
+    for len in [0, 1, 79, 80, 6223, 6225, 15439, 15440, 15441] {
+        assert_eq!(convert(&long_enough[..len], &mut any_bytes()), 1);
+    }
+    assert_eq!(convert(&[], &mut []), 1);
+    assert_eq!(convert(&old, &mut any_bytes()), 0);
+}
+
+#[test]
+fn convert_1_a_current_block_is_no_old_one() {
+    assert_eq!(convert(&printed(), &mut any_bytes()), 1);
+    assert_eq!(convert(&printed()[..6224], &mut any_bytes()), 1);
+    assert_eq!(convert(&fresh(), &mut fresh()), 1);
+}
+
+#[test]
+fn convert_1_every_way_an_old_block_can_be_bad() {
+    let mut good = case_4_tables();
+    assert_eq!(model::add(&mut good, 0x20000, 0x1000, 4, 63), 0);
+    assert_eq!(model::add(&mut good, 0x40000, 0x1000, 0, 0), 0);
+    assert_eq!(model::reserve(&mut good, 0x50000, 0x10), 0);
+    let old = to_old(&good);
+    let mut block = any_bytes();
+    assert_eq!(convert(&old, &mut block), 0);
+    assert_eq!(block, good);
+    for (at, x) in [
+        (0, 0),
+        (0, 2),
+        (4, 1),
+        (8, 2),
+        (12, 81),
+        (16, 2),
+        (16, 4),
+        (16, 129),
+        (20, 127),
+        (24, 1),
+        (28, 3153),
+        (32, 1),
+        (32, 3),
+        (32, 129),
+        (36, 127),
+        (36, 129),
+        (36, 512),
+        (48, 2),
+        (52, 1),
+        (72, 1),
+        (76, 1 << 31),
+        // By document 01 flags are 0 or 4 and nothing else.
+        (80 + 16, 1),
+        (80 + 16, 2),
+        (80 + 16, 3),
+        (80 + 16, 5),
+        (80 + 16, 6),
+        (80 + 16, 7),
+        (80 + 16, 8),
+        (80 + 20, 64),
+        (3152 + 16, 4),
+        (3152 + 20, 1),
+        (80 + 3 * 24, 1),
+        (3152 + 2 * 24 + 20, 1),
+        (6220, 1 << 31),
+    ] {
+        let mut bad = old.clone();
+        bad[at..at + 4].copy_from_slice(&u32::to_le_bytes(x));
+        assert_eq!(convert(&bad, &mut any_bytes()), 1, "word {x:#x} at {at}");
+    }
+    for at in [56, 64] {
+        for wrong in [long(&old, at) + 1, long(&old, at) - 1, 0] {
+            let mut bad = old.clone();
+            bad[at..at + 8].copy_from_slice(&wrong.to_le_bytes());
+            assert_eq!(convert(&bad, &mut any_bytes()), 1);
+        }
+    }
+    // Records out of order, and touching with equal tags.
+    let mut bad = old.clone();
+    bad[80..80 + 48].rotate_left(24);
+    assert_eq!(convert(&bad, &mut any_bytes()), 1);
+    let mut bad = old.clone();
+    bad[80 + 24 + 16..80 + 48].fill(0);
+    assert_eq!(convert(&bad, &mut any_bytes()), 1);
+}
+
+#[test]
+fn no_other_command_takes_an_old_block() {
+    assert_eq!(all_commands(&printed()), [0; 12]);
+    assert_eq!(all_commands(&printed_old()), [1; 12]);
+    assert_eq!(model::fresh(&mut printed_old()), 1);
 }

@@ -8,8 +8,23 @@
 use std::sync::atomic::{AtomicU32, AtomicU64, Ordering};
 use std::sync::OnceLock;
 
-const BLOCK_LEN: usize = 6224;
-const CAPACITY: usize = 128;
+/// What differs from edition to edition.
+struct Edition {
+    number: u32,
+    len: usize,
+    capacity: [usize; 2],
+}
+
+const NOW: Edition = Edition {
+    number: 2,
+    len: 15440,
+    capacity: [128, 512],
+};
+const OLD: Edition = Edition {
+    number: 1,
+    len: 6224,
+    capacity: [128, 128],
+};
 const OFFSETS: [usize; 2] = [80, 3152];
 const ANY: u32 = u32::MAX;
 const ENTRY_LEN: usize = 20;
@@ -56,24 +71,35 @@ fn u64_at(b: &[u8], at: usize) -> u64 {
 }
 
 fn parse(b: &[u8]) -> Option<Block> {
-    if b.len() != BLOCK_LEN {
+    parse_as(b, &NOW)
+}
+
+fn parse_as(b: &[u8], edition: &Edition) -> Option<Block> {
+    if b.len() != edition.len {
         return None;
     }
     let words = [
-        (0, 1),
+        (0, edition.number),
         (4, 2),
         (8, 1),
         (12, 80),
-        (20, 128),
+        (20, edition.capacity[0] as u32),
         (24, 2),
         (28, 3152),
-        (36, 128),
+        (36, edition.capacity[1] as u32),
         (52, 0),
         (72, 0),
         (76, 0),
     ];
     // mutant 1: the word at 52 may hold anything
-    let skip = if mutant(1) { 52 } else { usize::MAX };
+    // mutant 69: the edition may be any
+    // mutant 70: the taken capacity may be any
+    let skip = match () {
+        _ if mutant(1) => 52,
+        _ if mutant(69) => 0,
+        _ if mutant(70) => 36,
+        _ => usize::MAX,
+    };
     if words
         .iter()
         .any(|&(at, x)| at != skip && u32_at(b, at) != x)
@@ -82,16 +108,17 @@ fn parse(b: &[u8]) -> Option<Block> {
         return None;
     }
     Some(Block {
-        memory: parse_table(b, 0)?,
-        taken: parse_table(b, 1)?,
+        memory: parse_table(b, 0, edition)?,
+        taken: parse_table(b, 1, edition)?,
         limit: u64_at(b, 40),
         direction: u32_at(b, 48),
     })
 }
 
-fn parse_table(b: &[u8], table: usize) -> Option<Vec<Rec>> {
+fn parse_table(b: &[u8], table: usize, edition: &Edition) -> Option<Vec<Rec>> {
     let count = u32_at(b, 16 + 16 * table) as usize;
-    if count > CAPACITY {
+    let capacity = edition.capacity[table];
+    if count > capacity {
         return None;
     }
     let mut list: Vec<Rec> = Vec::with_capacity(count);
@@ -108,6 +135,8 @@ fn parse_table(b: &[u8], table: usize) -> Option<Vec<Rec>> {
         };
         // mutant 3: taken records may have a tag
         let legal = match table {
+            // mutant 71: convert takes an old block with flags 1 to 7
+            0 if mutant(71) && edition.number == OLD.number => flags < 8 && node < 64,
             0 => (flags == 0 || flags == 4) && node < 64,
             _ => mutant(3) || (flags == 0 && node == 0),
         };
@@ -131,7 +160,13 @@ fn parse_table(b: &[u8], table: usize) -> Option<Vec<Rec>> {
     }
     let past = OFFSETS[table] + 24 * count;
     // mutant 5: bytes past the count are not looked at
-    let clean = b[past..OFFSETS[table] + 24 * CAPACITY]
+    // mutant 72: of the bytes past the count only as many as edition 1 had are looked at
+    let looked_at = if mutant(72) {
+        OLD.capacity[table].max(count)
+    } else {
+        capacity
+    };
+    let clean = b[past..OFFSETS[table] + 24 * looked_at]
         .iter()
         .all(|&x| x == 0);
     (total == u64_at(b, 56 + 8 * table) && (clean || mutant(5))).then_some(list)
@@ -140,7 +175,7 @@ fn parse_table(b: &[u8], table: usize) -> Option<Vec<Rec>> {
 fn put_table(b: &mut [u8], table: usize, list: &[Rec], keep_total: bool) {
     let mut total = 0u64;
     let start = OFFSETS[table];
-    b[start..start + 24 * CAPACITY].fill(0);
+    b[start..start + 24 * NOW.capacity[table]].fill(0);
     for (i, rec) in list.iter().enumerate() {
         let at = start + 24 * i;
         let size = rec.end.wrapping_sub(rec.base);
@@ -179,10 +214,17 @@ fn store(b: &mut [u8], table: usize, pieces: &[Rec]) -> u32 {
     let unmerged = pieces.iter().filter(|piece| piece.base < piece.end).count();
     // mutant 7: 6 is decided before merging
     let count = if mutant(7) { unmerged } else { list.len() };
-    if count > CAPACITY {
+    // mutant 73: both tables are full at 128 records
+    // mutant 74: the taken table is full at 511 records
+    let capacity = match NOW.capacity[table] {
+        _ if mutant(73) => 128,
+        512 if mutant(74) => 511,
+        capacity => capacity,
+    };
+    if count > capacity {
         // mutant 8: a refusal 6 leaves the cut list behind
         if mutant(8) {
-            list.truncate(CAPACITY);
+            list.truncate(capacity);
             put_table(b, table, &list, false);
         }
         return 6;
@@ -454,25 +496,93 @@ unsafe fn lent_mut<'a>(p: *mut u8, len: usize) -> &'a mut [u8] {
 #[no_mangle]
 pub unsafe extern "C" fn memblock_fresh(block: *mut u8, len: usize) -> u32 {
     let b = lent_mut(block, len);
-    if len != BLOCK_LEN {
+    // mutant 75: fresh is done on the bytes of an edition 1 block too
+    if mutant(75) && len == OLD.len {
+        b.fill(0);
+        return 0;
+    }
+    if len != NOW.len {
         return 1;
     }
-    b.fill(0);
-    for (at, x) in [
-        (0, 1u32),
-        (4, 2),
-        (8, 1),
-        (12, 80),
-        (20, 128),
-        (24, 2),
-        (28, 3152),
-        (36, 128),
-    ] {
-        b[at..at + 4].copy_from_slice(&x.to_le_bytes());
-    }
+    write_empty(b);
     // mutant 22: the limit of a fresh block is 2^63 - 1
     let limit = if mutant(22) { u64::MAX >> 1 } else { u64::MAX };
     b[40..48].copy_from_slice(&limit.to_le_bytes());
+    0
+}
+
+/// A block with both tables empty, limit and direction 0.
+fn write_empty(b: &mut [u8]) {
+    b.fill(0);
+    // mutant 76: the taken capacity is stored as 511
+    let taken = NOW.capacity[1] as u32 - u32::from(mutant(76));
+    for (at, x) in [
+        (0, NOW.number),
+        (4, 2),
+        (8, 1),
+        (12, 80),
+        (20, NOW.capacity[0] as u32),
+        (24, 2),
+        (28, 3152),
+        (36, taken),
+    ] {
+        b[at..at + 4].copy_from_slice(&x.to_le_bytes());
+    }
+}
+
+/// # Safety
+/// As above; the two share no byte.
+#[no_mangle]
+pub unsafe extern "C" fn memblock_convert(
+    old: *const u8,
+    old_len: usize,
+    block: *mut u8,
+    len: usize,
+) -> u32 {
+    let o = lent(old, old_len);
+    let b = lent_mut(block, len);
+    // mutant 77: the lent bytes are cleared before the old block is judged
+    if mutant(77) {
+        b.fill(0);
+    }
+    // mutant 78: convert judges the old block by the current layout
+    let judged_by = if mutant(78) { &NOW } else { &OLD };
+    let Some(tables) = parse_as(o, judged_by) else {
+        return 1;
+    };
+    // mutant 79: convert wants a good block to write over
+    if mutant(79) && parse(b).is_none() {
+        return 1;
+    }
+    // mutant 80: convert writes over the first bytes of a longer block
+    if len < NOW.len || (len > NOW.len && !mutant(80)) {
+        return 1;
+    }
+    let b = &mut b[..NOW.len];
+    // mutant 81: what stood behind an edition 1 block's end stays
+    let behind = b[OLD.len..].to_vec();
+    write_empty(b);
+    put_table(b, 0, &tables.memory, false);
+    put_table(b, 1, &tables.taken, false);
+    if mutant(81) {
+        b[OLD.len..].copy_from_slice(&behind);
+    }
+    // mutant 82: convert drops the limit
+    // mutant 83: convert drops the direction
+    if !mutant(82) {
+        b[40..48].copy_from_slice(&tables.limit.to_le_bytes());
+    }
+    if !mutant(83) {
+        b[48..52].copy_from_slice(&tables.direction.to_le_bytes());
+    }
+    // mutant 84: convert drops the last of 128 taken records
+    if mutant(84) && tables.taken.len() == 128 {
+        put_table(b, 1, &tables.taken[..127], false);
+    }
+    // mutant 85: the old block's edition is written
+    if mutant(85) {
+        old.cast_mut().write(2);
+    }
     0
 }
 
@@ -486,7 +596,9 @@ pub unsafe extern "C" fn memblock_set(
     direction: u32,
 ) -> u32 {
     let b = lent_mut(block, len);
-    if parse(b).is_none() {
+    // mutant 86: set is done on an edition 1 block
+    let let_through = mutant(86) && parse_as(b, &OLD).is_some();
+    if parse(b).is_none() && !let_through {
         return 1;
     }
     // mutant 23: set writes the limit before it refuses the direction
@@ -637,7 +749,9 @@ pub unsafe extern "C" fn memblock_next_free(
         return 8;
     }
     let slip = lent_mut(slip, slip_len);
-    let Some(tables) = parse(b) else {
+    // mutant 87: next free reads an edition 1 block too
+    let old = parse_as(b, &OLD).filter(|_| mutant(87));
+    let Some(tables) = parse(b).or(old) else {
         return tell(slip, Err(1));
     };
     if node > 63 && node != ANY {
@@ -840,7 +954,7 @@ pub unsafe extern "C" fn memblock_intake_e820(
             true => trimmed(&next, PAGE).len(),
             false => next.len(),
         };
-        if count > CAPACITY {
+        if count > NOW.capacity[0] {
             // mutant 52: the entry that does not fit is passed over
             if mutant(52) {
                 continue;

@@ -1,13 +1,15 @@
 //! Replays the boot program's transcript on the second program, line by line.
 //!
 //! `transcript NAME FILE`. For each call the line that the second program would
-//! have written, with its number, its block's sum and its slip or its report's
-//! sum, must be the line that stands there; the same for both tables at the end.
+//! have written, with its number, its block's sum and its slip, or its report's or
+//! old block's sum, must be the line that stands there; the same for both tables at the end.
 //! Fails at the first difference, at a line it does not know, and when the
 //! transcript does not reach its end or leaves out a function, a number, or part
 //! of the memory map.
 
-use model::layout::{BLOCK_LEN, REPORT_ENTRIES, REPORT_ENTRY_LEN, SLIP_LEN, USABLE};
+use model::layout::{
+    BLOCK_LEN, EDITION_1, REPORT_ENTRIES, REPORT_ENTRY_LEN, SLIP_LEN, TAKEN, USABLE,
+};
 use model::{Board, Wish};
 use std::collections::{BTreeMap, BTreeSet};
 use std::fmt::Write;
@@ -22,7 +24,7 @@ const LEGACY: (u64, u64) = (0xa0000, 0x60000);
 /// The report's bytes: room for one entry too many.
 const REPORT_LEN: usize = (REPORT_ENTRIES + 1) * REPORT_ENTRY_LEN + GUARD;
 
-const FUNCTIONS: [&str; 13] = [
+const FUNCTIONS: [&str; 14] = [
     "memblock_fresh",
     "memblock_set",
     "memblock_add",
@@ -36,6 +38,7 @@ const FUNCTIONS: [&str; 13] = [
     "memblock_find",
     "memblock_allocate",
     "memblock_intake_e820",
+    "memblock_convert",
 ];
 const NUMBERS: [u32; 10] = [0, 1, 2, 3, 4, 5, 6, 7, 8, 10];
 
@@ -117,8 +120,9 @@ struct Replay {
     /// Ranges in use before the first call, and those reserved in `block`.
     held: Vec<(u64, u64)>,
     reserved: Vec<(u64, u64)>,
-    /// How often the two blocks were compared.
+    /// How often the two blocks were compared, and conversions that were done.
     same: u32,
+    converted: u32,
     tables: BTreeSet<String>,
     ended: bool,
 }
@@ -127,7 +131,7 @@ impl Replay {
     fn new() -> Replay {
         let zero = || vec![0; BLOCK_LEN + GUARD];
         Replay {
-            blocks: BTreeMap::from([("block", zero()), ("mirror", zero())]),
+            blocks: BTreeMap::from([("block", zero()), ("mirror", zero()), ("old", zero())]),
             calls: 0,
             met: BTreeSet::new(),
             numbers: BTreeSet::new(),
@@ -139,6 +143,7 @@ impl Replay {
             held: Vec::new(),
             reserved: Vec::new(),
             same: 0,
+            converted: 0,
             tables: BTreeSet::new(),
             ended: false,
         }
@@ -179,6 +184,10 @@ impl Replay {
                 let at = hex(at)? as usize;
                 let byte = narrow(hex(byte)?)?;
                 *self.block(name)?.get_mut(at).ok_or("outside the block")? = byte;
+            }
+            ["edition", "1", name] => {
+                let old = edition_1(self.block(name)?);
+                self.block("old")?[..old.len()].copy_from_slice(&old);
             }
             ["same", "block", "mirror", _] => {
                 if self.blocks["block"] != self.blocks["mirror"] {
@@ -226,8 +235,37 @@ impl Replay {
         Ok(())
     }
 
+    /// A conversion on the second program; its line.
+    fn convert(&mut self, arguments: &str) -> Result<String, Wrong> {
+        let words: Vec<&str> = arguments.split(", ").collect();
+        let ["old", old_length, name, length] = words[..] else {
+            return Err(format!("unknown conversion: {arguments}"));
+        };
+        let buffer = self.blocks["old"].clone();
+        let old = buffer
+            .get(..hex(old_length)? as usize)
+            .ok_or("longer than the old block")?;
+        let length = hex(length)? as usize;
+        let lent = self.block(name)?;
+        let block = lent.get_mut(..length).ok_or("longer than the block")?;
+        let number = model::convert(old, block);
+        let line = format!(
+            "memblock_convert({arguments}) = {number:#x} sum {:#x} old {:#x}",
+            sum(lent),
+            sum(&buffer)
+        );
+        self.converted += u32::from(number == 0);
+        self.calls += 1;
+        self.met.insert("memblock_convert".into());
+        self.numbers.insert(number);
+        Ok(line)
+    }
+
     /// Makes the call on the second program; its line.
     fn call(&mut self, function: &str, arguments: &str) -> Result<String, Wrong> {
+        if function == "memblock_convert" {
+            return self.convert(arguments);
+        }
         let mut words = arguments.split(", ");
         let name = words.next().ok_or("no block")?.to_string();
         let mut numbers = Vec::new();
@@ -349,14 +387,30 @@ impl Replay {
         {
             return Err("what was in use was not reserved".into());
         }
-        if self.same != 2 {
-            return Err("the report and its entries backwards were not both compared".into());
+        if self.same != 3 {
+            return Err("report, entries and conversion were not all compared".into());
         }
-        if self.tables.len() != self.blocks.len() {
+        if self.converted == 0 {
+            return Err("no conversion was done".into());
+        }
+        if !["block", "mirror"]
+            .iter()
+            .all(|&name| self.tables.contains(name))
+        {
             return Err("a block's tables are missing".into());
         }
         Ok(())
     }
+}
+
+/// The edition 1 block that says what a block does: the same bytes up to its end,
+/// but for edition and taken capacity.
+fn edition_1(block: &[u8]) -> Vec<u8> {
+    let mut old = block[..EDITION_1.length()].to_vec();
+    old[..4].copy_from_slice(&EDITION_1.edition.to_le_bytes());
+    let capacity = EDITION_1.taken.capacity as u32;
+    old[TAKEN.entry + 12..TAKEN.entry + 16].copy_from_slice(&capacity.to_le_bytes());
+    old
 }
 
 /// The lines of both tables, totals, limit and direction.

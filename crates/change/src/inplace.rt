@@ -91,10 +91,11 @@ pub fn splice(t: &mut [u8], tally: Tally, met: Met, src: &[u8], n: usize) -> Cha
     }
     let lost = total_of(&t[from..to], stop - first);
     let won = total_of(src, n);
+    let total = tally.total.sub(lost).add(won);
     replace(t, count, first, stop, src, n);
     Changed::To(Tally {
         count: left as u32,
-        total: tally.total.sub(lost).add(won),
+        total,
     })
 }
 

@@ -44,6 +44,6 @@ other-length c b d s = go c s
 pub edition-sentence : EditionSentence
 edition-sentence =
     record {
-      length = other-length;
-      editionOne = λ c b g. other-length c b (λ e. absurd (omega (arith, sym (good-length editionOne b g) ∙ e)));
+      other-length = other-length;
+      edition-one = λ c b g. other-length c b (λ e. absurd (omega (arith, sym (good-length editionOne b g) ∙ e)));
     }

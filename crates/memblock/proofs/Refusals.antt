@@ -8,16 +8,15 @@ use lib.Dec.{leb, eqb}
 use lib.ListN.{length, replicate}
 use borrow.Author.Tests.{eq-eqb, eqb-true, eqb-false}
 use Rattle.address.specs.Numbers.{powerOfTwo}
-use Rattle.regions.specs.declared.Region.{Region}
-use Rattle.regions.specs.Changes.{changed}
 use Rattle.regions.specs.declared.Kind.the-variants.{Taken}
 use Rattle.regions.specs.declared.Change.the-variants.{Fill}
-use Rattle.block.specs.Block.{current, capacity, blockLength, listOf, contents, good}
+use Rattle.block.specs.Block.{current, capacity, blockLength, contents, good}
 use Rattle.tables.specs.declared.commands.Verb.the-variants.{Reserve}
-use Rattle.tables.specs.Commands.{Outcome, unless, doneWith, store, changeRange, tag, Command, command, table, changeOf, legalVerb, commandOutcome, fresh, set, trim}
+use Rattle.tables.specs.Commands.{Outcome, unless, doneWith, store, changeRange, tag, Command, command, table, legalVerb, commandOutcome, fresh, set, trim}
 use Rattle.tables.specs.Convert.{goodOne, convert}
+use Rattle.tables.specs.DemandTwo.{finished}
 use Rattle.tables.proofs.Converting.{convert-sentence}
-use Rattle.tables.proofs.Good.{command-good, trim-good, set-good, fresh-good}
+use Rattle.tables.proofs.Good.{was-good, command-good, trim-good, set-good, fresh-good}
 use Rattle.intake.specs.Turns.{inTurn, wholly}
 use Rattle.intake.specs.E820.{entries, readable, entrySteps, intakeE820}
 use Rattle.intake.proofs.Good.{intake-good}
@@ -50,11 +49,6 @@ module _ (b x : List ℕ) where
   three-keep : (t u v : Bool) (n m k : ℕ) → Keeps b (unless t n b (unless u m b (unless v k b (doneWith x))))
   three-keep t u v n m k = unless-keeps t n b (unless u m b (unless v k b (doneWith x))) (two-keep u v m k)
 
--- what is done on a block that must be good was done on a good one
-was-good : (t : Bool) (b : List ℕ) (o : Outcome) → unless t 1 b o .number ≡ 0 → t ≡ true
-was-good true b o h = refl
-was-good false b o h = absurd (omega (arith, h))
-
 -- what is so of an outcome on b
 record FairOutcome (b : List ℕ) (o : Outcome) : Type 0 where
   keeps : Keeps b o
@@ -73,15 +67,11 @@ module _ (b : List ℕ) where
         isGood = λ h. set-good b (was-good (good current b) b _ h) limit direction;
       }
 
-  -- the finished list of the table that a command works on
-  abbrev finished : Command → List Region
-  finished c = changed (changeOf (c .verb)) (c .base) (c .size) (listOf (contents current b) (table (c .verb)))
-
   command-fair : (c : Command) → FairOutcome b (commandOutcome current c b)
   unfolding commandOutcome store
   command-fair c =
       record {
-        keeps = three-keep b _ (good current b) (legalVerb (c .verb)) (leb (length (finished c)) (capacity current (table (c .verb)))) 1 2 6;
+        keeps = three-keep b _ (good current b) (legalVerb (c .verb)) (leb (length (finished current c b)) (capacity current (table (c .verb)))) 1 2 6;
         isGood = λ h. command-good b (was-good (good current b) b _ h) c;
       }
 

@@ -4,7 +4,7 @@ use mathlib.Core.Path.{_≡_}
 use mathlib.Core.Bool.{Bool, true}
 use mathlib.Core.List.{List}
 use lib.Dec.{eqb}
-use lib.ListN.{length as lengthOf}
+use lib.ListN.{length}
 use Rattle.block.specs.Block.{current, blockLength, editionOne, good}
 use Rattle.memblock.specs.Calls.{Call, toFresh, toSet, toCommand, toTrim, toFind, toNextFree, toAllocate, toIntake, toConvert, answerOf}
 
@@ -14,13 +14,13 @@ slipFits toFresh = true
 slipFits (toSet limit direction) = true
 slipFits (toCommand c) = true
 slipFits (toTrim align) = true
-slipFits (toFind q slip) = eqb (lengthOf slip) 16
-slipFits (toNextFree from node slip) = eqb (lengthOf slip) 16
-slipFits (toAllocate q slip) = eqb (lengthOf slip) 16
+slipFits (toFind q slip) = eqb (length slip) 16
+slipFits (toNextFree from node slip) = eqb (length slip) 16
+slipFits (toAllocate q slip) = eqb (length slip) 16
 slipFits (toIntake report) = true
 slipFits (toConvert old) = true
 
 -- edition 1 blocks, and any other length, get number 1 from every command, as the block that it works on; convert reads an edition 1 block beside it
 pub record EditionSentence : Type 0 where
-  pub length : (c : Call) (b : List ℕ) → (lengthOf b ≡ blockLength current → ⊥) → slipFits c ≡ true → answerOf c b .number ≡ 1
-  pub editionOne : (c : Call) (b : List ℕ) → good editionOne b ≡ true → slipFits c ≡ true → answerOf c b .number ≡ 1
+  pub other-length : (c : Call) (b : List ℕ) → (length b ≡ blockLength current → ⊥) → slipFits c ≡ true → answerOf c b .number ≡ 1
+  pub edition-one : (c : Call) (b : List ℕ) → good editionOne b ≡ true → slipFits c ≡ true → answerOf c b .number ≡ 1

@@ -1,7 +1,7 @@
 -- An edition 1 block, converted, is a good block that says the same. Assumes nothing.
 use Prim.Native.Nat.{ℕ, _+_, _*_, _-_, _≤_}
 use mathlib.Core.Path.{_≡_, refl, sym, ap, _∙_}
-use mathlib.Core.Bool.{Bool, true, false, cond, not, _&&_, _||_, and-false}
+use mathlib.Core.Bool.{Bool, true, false, not, _&&_, _||_, and-false}
 use mathlib.Core.List.{List, [], _∷_, _++_, append-assoc}
 use native.Mathlib.Omega.{arith}
 use lib.Dec.{leb, eqb}
@@ -26,7 +26,8 @@ use Rattle.block.proofs.Fields.{good-spare}
 use Rattle.block.proofs.Kept.{good-bytes}
 use Rattle.tables.specs.Commands.{outcome, doneWith}
 use Rattle.tables.specs.Convert.{flagsOne, goodOne, convert, Converts, ConvertSentence}
-use Rattle.tables.proofs.Printed.{fresh-spellable-one}
+use Rattle.tables.proofs.Good.{was-good}
+use Rattle.tables.proofs.Printed.{fresh-spellable}
 
 -- ---- good by document 01
 
@@ -141,11 +142,9 @@ converts old b =
     given g n = rw (g, eq-eqb (length b) (blockLength current) n)
 
     passed : convert old b .number ≡ 0 → (goodOne old ≡ true) × (eqb (length b) (blockLength current) ≡ true)
-    passed e = both (goodOne old) (eqb (length b) (blockLength current)) (go (goodOne old && eqb (length b) (blockLength current)) e)
-      where
-        go : (t : Bool) → cond t (doneWith (blockBytes current (contents editionOne old))) (outcome 1 b) .number ≡ 0 → t ≡ true
-        go true h = refl
-        go false h = absurd (omega (arith, h))
+    passed e =
+        let t = goodOne old && eqb (length b) (blockLength current) in
+        both (goodOne old) (eqb (length b) (blockLength current)) (was-good t b (doneWith (blockBytes current (contents editionOne old))) e)
 
 pub convert-sentence : ConvertSentence
 unfolding convert
@@ -153,6 +152,6 @@ convert-sentence =
     record {
       converts = converts;
       fresh =
-          λ b n. let g = good-spelled-block editionOne small-one freshContents fresh-spellable-one in
-          rw (good-one (blockBytes editionOne freshContents), g, eq-eqb (length b) (blockLength current) n, contents-spelled editionOne small-one freshContents fresh-spellable-one);
+          λ b n. let g = good-spelled-block editionOne small-one freshContents (fresh-spellable editionOne) in
+          rw (good-one (blockBytes editionOne freshContents), g, eq-eqb (length b) (blockLength current) n, contents-spelled editionOne small-one freshContents (fresh-spellable editionOne));
     }

@@ -13,31 +13,32 @@ use Rattle.address.proofs.Powers.{power-some}
 use Rattle.address.proofs.Tests.{and}
 use Rattle.regions.specs.declared.Kind.the-variants.{Memory, Taken}
 use Rattle.regions.specs.declared.Region.{Region}
-use Rattle.regions.specs.Changes.{changed}
 use Rattle.regions.proofs.Numbers.{bytes-mod}
 use Rattle.block.specs.declared.Layout.{Layout}
-use Rattle.block.specs.Block.{current, capacity, blockLength, settings, settingsBytes, freshContents, listOf, headerBytes, blockBytes, contents, goodContents, good}
+use Rattle.block.specs.Block.{current, capacity, blockLength, settings, settingsBytes, freshContents, headerBytes, blockBytes, contents, goodContents, good}
 use Rattle.block.proofs.Blocks.{tables-ok, good-contents}
 use Rattle.block.proofs.Reading.{Spellable, good-spelled-block}
 use Rattle.block.proofs.Layouts.{small-current}
 use Rattle.block.proofs.Kept.{change-kept, trim-kept}
-use Rattle.tables.specs.Commands.{outcome, doneWith, store, Command, table, changeOf, legalVerb, commandOutcome, fresh, set, trim}
+use Rattle.tables.specs.Commands.{Outcome, outcome, unless, doneWith, store, Command, table, changeOf, legalVerb, commandOutcome, fresh, set, trim}
+use Rattle.tables.specs.DemandTwo.{finished}
 use Rattle.tables.proofs.Verbs.{verb-keeps}
 use Rattle.tables.proofs.Printed.{fresh-spellable}
+
+-- what is done past the number 1 was done where its test holds
+pub was-good : (t : Bool) (b : List ℕ) (o : Outcome) → unless t 1 b o .number ≡ 0 → t ≡ true
+was-good true b o h = refl
+was-good false b o h = absurd (omega (arith, h))
 
 -- ---- the commands on a range, and trim
 
 module _ (b : List ℕ) (g : good current b ≡ true) where
   module _ (c : Command) where
-    -- the finished list of the table that the command works on
-    finished : List Region
-    finished = changed (changeOf (c .verb)) (c .base) (c .size) (listOf (contents current b) (table (c .verb)))
-
     pub command-good : good current (commandOutcome current c b .block) ≡ true
-    unfolding commandOutcome store finished
-    command-good = go (legalVerb (c .verb)) refl (leb (length finished) (capacity current (table (c .verb)))) refl
+    unfolding commandOutcome store
+    command-good = go (legalVerb (c .verb)) refl (leb (length (finished current c b)) (capacity current (table (c .verb)))) refl
       where
-        go : (l : Bool) → legalVerb (c .verb) ≡ l → (m : Bool) → leb (length finished) (capacity current (table (c .verb))) ≡ m
+        go : (l : Bool) → legalVerb (c .verb) ≡ l → (m : Bool) → leb (length (finished current c b)) (capacity current (table (c .verb))) ≡ m
             → good current (commandOutcome current c b .block) ≡ true
         go false e m f = rw (g, e) g
         go true e false f = rw (g, e, f) g
@@ -46,10 +47,10 @@ module _ (b : List ℕ) (g : good current b ≡ true) where
 
     -- with a legal tag it is done or the table is full
     pub command-number : legalVerb (c .verb) ≡ true → (commandOutcome current c b .number ≡ 0) ⊎ (commandOutcome current c b .number ≡ 6)
-    unfolding commandOutcome store finished
-    command-number e = go (leb (length finished) (capacity current (table (c .verb)))) refl
+    unfolding commandOutcome store
+    command-number e = go (leb (length (finished current c b)) (capacity current (table (c .verb)))) refl
       where
-        go : (m : Bool) → leb (length finished) (capacity current (table (c .verb))) ≡ m
+        go : (m : Bool) → leb (length (finished current c b)) (capacity current (table (c .verb))) ≡ m
             → (commandOutcome current c b .number ≡ 0) ⊎ (commandOutcome current c b .number ≡ 6)
         go true f = inl (rw (g, e, f))
         go false f = inr (rw (g, e, f))
@@ -94,5 +95,5 @@ fresh-good b h = go (eqb (length b) (blockLength current)) refl h
   where
     go : (t : Bool) → eqb (length b) (blockLength current) ≡ t → cond t (doneWith (blockBytes current freshContents)) (outcome 1 b) .number ≡ 0
         → good current (cond t (doneWith (blockBytes current freshContents)) (outcome 1 b) .block) ≡ true
-    go true e n = good-spelled-block current small-current freshContents fresh-spellable
+    go true e n = good-spelled-block current small-current freshContents (fresh-spellable current)
     go false e n = absurd (omega (arith, n))

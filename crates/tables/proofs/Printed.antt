@@ -4,9 +4,10 @@ use mathlib.Core.Path.{_≡_, refl, sym, ap, _∙_}
 use mathlib.Core.Bool.{true}
 use mathlib.Core.List.{List, [], _∷_, _++_}
 use native.Mathlib.Omega.{arith}
+use lib.Dec.{leb}
 use lib.ListN.{length, replicate, replicate-append-replicate}
 use borrow.Author.Tests.{eq-eqb, le-leb}
-use Rattle.regions.specs.declared.Kind.the-variants.{Memory}
+use Rattle.regions.specs.declared.Kind.the-variants.{Memory, Taken}
 use Rattle.regions.specs.declared.Region.{Region}
 use Rattle.regions.specs.declared.State.the-variants.{Absent}
 use Rattle.regions.specs.declared.Change.the-variants.{Fill}
@@ -21,9 +22,11 @@ use Rattle.regions.proofs.Good.{total-is-sizes}
 use Rattle.regions.specs.Steps.{stretch}
 use Rattle.regions.proofs.Update.{walk, update}
 use Rattle.regions.proofs.Update.{update-shortest}
+use Rattle.block.specs.declared.Layout.{Layout}
 use Rattle.block.specs.Block.{editionOne, current, capacity, offset, withList, freshContents, entryBytes, entriesBytes, settingsBytes, totalsBytes, headerBytes, blockBytes, goodTable, goodContents, good}
 use Rattle.tables.specs.declared.commands.Verb.the-variants.{Add}
 use Rattle.tables.specs.Commands.{outcome, tag, fresh, store, command, commandOutcome}
+use Rattle.block.specs.Checks.{Small}
 use Rattle.block.proofs.Layouts.{small-one, small-current}
 use Rattle.tables.proofs.Setting.{total-empty, fresh-spelled}
 use Rattle.block.proofs.Reading.{Spellable, contents-spelled, good-spelled-block}
@@ -64,17 +67,13 @@ pub fresh-printed : (b : List ℕ) → length b ≡ 15440 → fresh current b �
 unfolding fresh
 fresh-printed b e = rw (eq-eqb (length b) 15440 e, fresh-two)
 
-pub fresh-spellable-one : Spellable editionOne freshContents
-unfolding goodContents goodTable goodList rises legal capacity
-fresh-spellable-one =
+pub fresh-spellable : (L : Layout) → Spellable L freshContents
+unfolding goodContents goodTable goodList rises legal
+fresh-spellable L =
     let t : rises 0 Absent top [] ≡ true = le-leb 0 top (omega arith) in
-    record { good = rw t; limit = omega arith }
-
-pub fresh-spellable : Spellable current freshContents
-unfolding goodContents goodTable goodList rises legal capacity
-fresh-spellable =
-    let t : rises 0 Absent top [] ≡ true = le-leb 0 top (omega arith) in
-    record { good = rw t; limit = omega arith }
+    let m : leb 0 (capacity L Memory) ≡ true = le-leb 0 (capacity L Memory) (omega arith) in
+    let n : leb 0 (capacity L Taken) ≡ true = le-leb 0 (capacity L Taken) (omega arith) in
+    record { good = rw (m, n, t); limit = omega arith }
 
 -- ---- one range added
 
@@ -112,28 +111,18 @@ first-two : blockBytes current (withList freshContents Memory first) ≡ addPrin
 unfolding blockBytes headerBytes entriesBytes entryBytes settingsBytes totalsBytes tableBytes regionsBytes regionBytes capacity offset bytes
 first-two = rw (first-total, total-empty) (ap (λ (x : List ℕ). addPrinted 0x02 0x00 0x02 ++ x) (replicate-append-replicate 3048 12288 0))
 
+-- the range added to a fresh block
+first-added : (L : Layout) → Small L → 1 ≤ L .memory
+    → commandOutcome L (command (Add (tag 0 0)) 0x1000 0x1000) (blockBytes L freshContents) ≡ outcome 0 (blockBytes L (withList freshContents Memory first))
+unfolding commandOutcome store legalTag capacity
+first-added L small room =
+    let s = fresh-spellable L in
+    rw (good-spelled-block L small freshContents s, contents-spelled L small freshContents s, first-changed, le-leb 1 (L .memory) room)
+
 -- document 01's add to the fresh block
 pub add-one : commandOutcome editionOne (command (Add (tag 0 0)) 0x1000 0x1000) (freshPrinted 0x01 0x80 0x00 ++ replicate 6144 0) ≡ outcome 0 (addPrinted 0x01 0x80 0x00 ++ replicate 6120 0)
-unfolding commandOutcome store legalTag capacity
-add-one =
-    let s = fresh-spellable-one in
-    rw (
-      ← fresh-one,
-      good-spelled-block editionOne small-one freshContents s,
-      contents-spelled editionOne small-one freshContents s,
-      first-changed,
-      first-one,
-    )
+add-one = rw (fresh-one, first-one) at (first-added editionOne small-one (omega arith))
 
 -- and on the block that the commands work on
 pub add-printed : commandOutcome current (command (Add (tag 0 0)) 0x1000 0x1000) (freshPrinted 0x02 0x00 0x02 ++ replicate 15360 0) ≡ outcome 0 (addPrinted 0x02 0x00 0x02 ++ replicate 15336 0)
-unfolding commandOutcome store legalTag capacity
-add-printed =
-    let s = fresh-spellable in
-    rw (
-      ← fresh-two,
-      good-spelled-block current small-current freshContents s,
-      contents-spelled current small-current freshContents s,
-      first-changed,
-      first-two,
-    )
+add-printed = rw (fresh-two, first-two) at (first-added current small-current (omega arith))

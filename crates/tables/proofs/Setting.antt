@@ -44,16 +44,15 @@ fresh-spelled L =
     let z : 24 * (L .memory - 0) + 24 * (L .taken - 0) ≡ 24 * (L .memory + L .taken) = omega arith in
     rw (total-empty, replicate-append-replicate, z)
 
-module _ (l : Layout) (is : l ≡ current) (b : List ℕ) where
-  pub fresh-refused : (length b ≡ 80 + 24 * (l .memory + l .taken) → ⊥) → outcome 1 b ≡ fresh current b
-  unfolding fresh
-  fresh-refused d = rw (ne-eqb (length b) (blockLength current) (rw is at d))
+pub fresh-refused : (b : List ℕ) → (length b ≡ blockLength current → ⊥) → outcome 1 b ≡ fresh current b
+unfolding fresh
+fresh-refused b d = rw (ne-eqb (length b) (blockLength current) d)
 
-  pub fresh-done : length b ≡ 80 + 24 * (l .memory + l .taken) → (h : Header) → h ≡ freshHeader → (x y : List ℕ) → x ≡ take 80 b ++ replicate (length b - 80) 0
+module _ (l : Layout) (is : l ≡ current) (b : List ℕ) where
+  pub fresh-done : length b ≡ blockLength current → (h : Header) → h ≡ freshHeader → (x y : List ℕ) → x ≡ take 80 b ++ replicate (length b - 80) 0
       → y ≡ sets x 0 (headerBytes l h) → outcome 0 y ≡ fresh current b
   unfolding fresh
-  fresh-done f h k x y p q =
-      let n : length b ≡ blockLength current = rw is at f in
+  fresh-done n h k x y p q =
       let m : length (take 80 b) ≡ 80 = length-take-le 80 b (omega arith) in
       let room : ℕ = 24 * (current .memory + current .taken) in
       let z : length b - 80 ≡ room = omega arith in

@@ -28,7 +28,7 @@ use Rattle.records.specs.Totals.{tally}
 use Rattle.block.specs.Checks.{Small, withTally}
 use Rattle.block.proofs.Blocks.{table-length, part-length, room, good-contents, good-length}
 use Rattle.block.proofs.Reading.{good-header, good-tables}
-use Rattle.block.proofs.Layouts.{small-current, small-layout}
+use Rattle.block.proofs.Layouts.{small-current, small-as}
 use Rattle.block.proofs.Headers.{sets-header}
 use Rattle.address.specs.declared.CheckedSize.the-variants as Size
 
@@ -105,10 +105,10 @@ capacity-bound L s Memory = s .memory
 capacity-bound L s Taken = s .taken
 
 pub start-bound : (l : Layout) (k : Kind) (n : ℕ) → l ≡ current → n ≡ offset l k → n ≤ 80 + 24 * 65536
-start-bound l k n e f = omega (arith, f, offset-bound l (small-layout l e) k)
+start-bound l k n e f = omega (arith, f, offset-bound l (small-as small-current l e) k)
 
 pub capacity-now : (l : Layout) (k : Kind) (m : ℕ) → l ≡ current → m ≡ capacity l k → m ≤ 65536
-capacity-now l k m e f = omega (arith, f, capacity-bound l (small-layout l e) k)
+capacity-now l k m e f = omega (arith, f, capacity-bound l (small-as small-current l e) k)
 
 -- the scratch table for any change is as long as the memory table
 pub scratch-room : 24 * capacity current Memory ≤ 3072

@@ -4,6 +4,7 @@ use crate::range::trim_memory;
 use address::Address;
 use address::Size;
 use block::Header;
+use block::LENGTH;
 use block::Settings;
 use block::block_good;
 use block::current_layout;
@@ -25,8 +26,7 @@ ghost use Rattle.tables.specs.Commands.{outcome, fresh as freshOutcome, 
 pub fn fresh(block: &mut [u8]) -> u32
     ensures { λ r. ⌜ outcome r (now (block .exit)) ≡ freshOutcome current (now (block .entry)) ⌝ }
 {
-    let layout = current_layout();
-    if block.len() != 80 + 24 * (layout.memory as usize + layout.taken as usize) {
+    if block.len() != LENGTH {
         return 1;
     }
     let empty = Tally {
@@ -42,7 +42,7 @@ pub fn fresh(block: &mut [u8]) -> u32
         },
     };
     put_zeros(block, 80);
-    put_header(block, layout, header);
+    put_header(block, current_layout(), header);
     0
 }
 

@@ -57,30 +57,30 @@ total-of-requires c κs =
 total-of-requires-2 : tie.Need-total-of-requires-2
 total-of-requires-2 c κs = search needs
 
-replace-requires : tie.Need-replace-requires
-replace-requires c κs =
-    let a = c .before .before .before .before .before .before .before .before .before .args in
-    let p = c .before .before .before .before .before .before .before .before .before .pre in
-    ((omega arith, omega arith), ((p .0 .table .room, put-room (a .t .now) (a .tally .count) (a .met .first) (a .met .stop) (p .1 .0 .0) (p .1 .0 .1) (p .0 .table .room) (a .n) (p .0 .even) (c .before .before .before .before .before .if1 .left)), (p .1 .1 .0, (p .0 .even, p .0 .rest))))
-
-cast-t23 : tie.Need-cast-t23
-cast-t23 c = search needs
-
 sub-requires : tie.Need-sub-requires
 sub-requires c κs =
-    let s = c .before .before .before .before .before .before .before .before .before .before .before .before in
+    let s = c .before .before .before .before .before .before .before .before in
     let a = s .args in
     let p = s .pre in
     let y = a .tally in
-    lost-le (a .t .now) (y .count) (a .met .first) (a .met .stop) (p .1 .0 .0) (p .1 .0 .1) (p .0 .table .room) (p .0 .table .rising) (readRegions (a .n) (a .src .now)) (p .1 .1 .1 .0) (p .1 .1 .1 .1) (y .total .0) _ _ (p .0 .total) (c .before .before .before .before .before .total-of .ensures) (c .before .before .before .before .total-of2 .ensures)
+    lost-le (a .t .now) (y .count) (a .met .first) (a .met .stop) (p .1 .0 .0) (p .1 .0 .1) (p .0 .table .room) (p .0 .table .rising) (readRegions (a .n) (a .src .now)) (p .1 .1 .1 .0) (p .1 .1 .1 .1) (y .total .0) _ _ (p .0 .total) (c .before .total-of .ensures) (c .total-of2 .ensures)
 
 add-requires : tie.Need-add-requires
 add-requires c κs =
-    let s = c .before .before .before .before .before .before .before .before .before .before .before .before .before in
+    let s = c .before .before .before .before .before .before .before .before .before in
     let a = s .args in
     let p = s .pre in
     let y = a .tally in
-    put-small (a .t .now) (y .count) (a .met .first) (a .met .stop) (p .1 .0 .0) (p .1 .0 .1) (p .0 .table .room) (p .0 .table .rising) (readRegions (a .n) (a .src .now)) (p .1 .1 .1 .0) (p .1 .1 .1 .1) (y .total .0) _ _ (p .0 .total) (c .before .before .before .before .before .before .total-of .ensures) (c .before .before .before .before .before .total-of2 .ensures) _ (c .sub .ensures)
+    put-small (a .t .now) (y .count) (a .met .first) (a .met .stop) (p .1 .0 .0) (p .1 .0 .1) (p .0 .table .room) (p .0 .table .rising) (readRegions (a .n) (a .src .now)) (p .1 .1 .1 .0) (p .1 .1 .1 .1) (y .total .0) _ _ (p .0 .total) (c .before .before .total-of .ensures) (c .before .total-of2 .ensures) _ (c .sub .ensures)
+
+replace-requires : tie.Need-replace-requires
+replace-requires c κs =
+    let a = c .before .before .before .before .before .before .before .before .before .before .before .args in
+    let p = c .before .before .before .before .before .before .before .before .before .before .before .pre in
+    ((omega arith, omega arith), ((p .0 .table .room, put-room (a .t .now) (a .tally .count) (a .met .first) (a .met .stop) (p .1 .0 .0) (p .1 .0 .1) (p .0 .table .room) (a .n) (p .0 .even) (c .before .before .before .before .before .before .before .if1 .left)), (p .1 .1 .0, (p .0 .even, p .0 .rest))))
+
+cast-t25 : tie.Need-cast-t25
+cast-t25 c = search needs
 
 same-length : tie.Need-same-length
 same-length c = search needs
@@ -92,7 +92,7 @@ returns-2 c =
     let p = s .pre in
     let y = a .tally in
     let q = read-regions-length (a .n) (a .src .now) in
-    splice-done (a .t .now) (y .count) (a .met .first) (a .met .stop) (p .1 .0 .0) (p .1 .0 .1) (p .0 .table .room) (p .0 .table .rising) (readRegions (a .n) (a .src .now)) (p .1 .1 .1 .0) (p .1 .1 .1 .1) (y .total .0) _ _ (p .0 .total) (c .before .before .before .before .before .before .before .total-of .ensures) (c .before .before .before .before .before .before .total-of2 .ensures) _ (c .before .sub .ensures) _ (c .add .ensures) (a .n) (sym q) (c .before .before .before .before .before .before .before .before .before .before .if1 .left) _ (c .before .before .before .before .replace .ensures)
+    splice-done (a .t .now) (y .count) (a .met .first) (a .met .stop) (p .1 .0 .0) (p .1 .0 .1) (p .0 .table .room) (p .0 .table .rising) (readRegions (a .n) (a .src .now)) (p .1 .1 .1 .0) (p .1 .1 .1 .1) (y .total .0) _ _ (p .0 .total) (c .before .before .before .before .before .before .before .total-of .ensures) (c .before .before .before .before .before .before .total-of2 .ensures) _ (c .before .before .before .before .before .sub .ensures) _ (c .before .before .before .before .add .ensures) (a .n) (sym q) (c .before .before .before .before .before .before .before .before .before .before .if1 .left) _ (c .before .before .replace .ensures)
 
 pub splice-spec : {M : Type 1} → statement M
 splice-spec =
@@ -111,9 +111,9 @@ splice-spec =
     sub-total-of-2
     total-of-requires
     total-of-requires-2
-    replace-requires
-    cast-t23
     sub-requires
     add-requires
+    replace-requires
+    cast-t25
     same-length
     returns-2)

@@ -1,6 +1,6 @@
 -- `intake::e820::intake` meets its contract.
 use Rattle.intake.proofs.Whole.{not-good, ragged, too-long, taken-in, is-good}
-use Rattle.block.proofs.Layouts.{small-layout}
+use Rattle.block.proofs.Layouts.{small-current, small-as}
 use borrow.Author.Needs.{needs}
 use Rattle.intake.proofs.e820.intake.Statement.{statement}
 use Rattle.intake.proofs.e820.intake.Tie as tie
@@ -9,7 +9,7 @@ current-layout-requires : tie.Need-current-layout-requires
 current-layout-requires c κs = search needs
 
 block-good-requires : tie.Need-block-good-requires
-block-good-requires c κs = search (small-layout, needs)
+block-good-requires c κs = search (small-as small-current, needs)
 
 same-length : tie.Need-same-length
 same-length c = search needs

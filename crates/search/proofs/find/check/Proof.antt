@@ -1,6 +1,6 @@
 -- `search::find::check` meets its contract.
 use Rattle.search.proofs.Answering.{check-bad, check-node, check-power, check-size, check-fine}
-use Rattle.block.proofs.Layouts.{small-layout}
+use Rattle.block.proofs.Layouts.{small-current, small-as}
 use borrow.Author.Needs.{needs}
 use Rattle.search.proofs.find.check.Statement.{statement}
 use Rattle.search.proofs.find.check.Tie as tie
@@ -9,7 +9,7 @@ current-layout-requires : tie.Need-current-layout-requires
 current-layout-requires c κs = search needs
 
 block-good-requires : tie.Need-block-good-requires
-block-good-requires c κs = search (small-layout, needs)
+block-good-requires c κs = search (small-as small-current, needs)
 
 returns : tie.Need-returns
 returns c = search (check-bad, needs)

@@ -1,27 +1,9 @@
 -- `tables::commands::fresh` meets its contract.
-use Rattle.block.proofs.Layouts.{small-layout}
+use Rattle.block.proofs.Layouts.{small-current, small-as}
 use Rattle.tables.proofs.Setting.{fresh-refused, fresh-done}
 use borrow.Author.Needs.{needs}
 use Rattle.tables.proofs.commands.fresh.Statement.{statement}
 use Rattle.tables.proofs.commands.fresh.Tie as tie
-
-current-layout-requires : tie.Need-current-layout-requires
-current-layout-requires c κs = search needs
-
-cast-if1 : tie.Need-cast-if1
-cast-if1 c = search needs
-
-cast-if1-2 : tie.Need-cast-if1-2
-cast-if1-2 c = search needs
-
-add-if1 : tie.Need-add-if1
-add-if1 c = search needs
-
-mul-if1 : tie.Need-mul-if1
-mul-if1 c = search needs
-
-add-if1-2 : tie.Need-add-if1-2
-add-if1-2 c = search needs
 
 returns : tie.Need-returns
 returns c = search (fresh-refused, needs)
@@ -29,8 +11,11 @@ returns c = search (fresh-refused, needs)
 put-zeros-requires : tie.Need-put-zeros-requires
 put-zeros-requires c κs = search needs
 
+current-layout-requires : tie.Need-current-layout-requires
+current-layout-requires c κs = search needs
+
 put-header-requires : tie.Need-put-header-requires
-put-header-requires c κs = search (small-layout, needs)
+put-header-requires c κs = search (small-as small-current, needs)
 
 same-length : tie.Need-same-length
 same-length c = search needs
@@ -42,14 +27,9 @@ pub fresh-spec : {M : Type 1} → statement M
 fresh-spec =
     tie.close
     (tie.spec
-    current-layout-requires
-    cast-if1
-    cast-if1-2
-    add-if1
-    mul-if1
-    add-if1-2
     returns
     put-zeros-requires
+    current-layout-requires
     put-header-requires
     same-length
     returns-2)

@@ -1,6 +1,6 @@
 -- `tables::commands::set` meets its contract.
 use Rattle.regions.proofs.Numbers.{bytes-all}
-use Rattle.block.proofs.Layouts.{small-layout}
+use Rattle.block.proofs.Layouts.{small-current, small-as}
 use Rattle.tables.proofs.Setting.{set-bad, set-direction, set-room, set-done}
 use borrow.Author.Needs.{needs}
 use Rattle.tables.proofs.commands.set.Statement.{statement}
@@ -10,7 +10,7 @@ current-layout-requires : tie.Need-current-layout-requires
 current-layout-requires c κs = search needs
 
 block-good-requires : tie.Need-block-good-requires
-block-good-requires c κs = search (small-layout, needs)
+block-good-requires c κs = search (small-as small-current, needs)
 
 same-length : tie.Need-same-length
 same-length c = search needs
@@ -28,7 +28,7 @@ get-header-requires : tie.Need-get-header-requires
 get-header-requires c κs = search (set-room, needs)
 
 put-header-requires : tie.Need-put-header-requires
-put-header-requires c κs = search (small-layout, set-room, needs)
+put-header-requires c κs = search (small-as small-current, set-room, needs)
 
 same-length-3 : tie.Need-same-length-3
 same-length-3 c = search needs

@@ -1,7 +1,7 @@
 -- `tables::commands::trim` meets its contract.
 use Rattle.block.proofs.Blocks.{good-here}
 use Rattle.tables.proofs.Commanding.{trim-bad, trim-power, power-right}
-use Rattle.block.proofs.Layouts.{small-layout}
+use Rattle.block.proofs.Layouts.{small-current, small-as}
 use borrow.Author.Needs.{needs}
 use Rattle.tables.proofs.commands.trim.Statement.{statement}
 use Rattle.tables.proofs.commands.trim.Tie as tie
@@ -10,7 +10,7 @@ current-layout-requires : tie.Need-current-layout-requires
 current-layout-requires c κs = search needs
 
 block-good-requires : tie.Need-block-good-requires
-block-good-requires c κs = search (small-layout, needs)
+block-good-requires c κs = search (small-as small-current, needs)
 
 same-length : tie.Need-same-length
 same-length c = search needs

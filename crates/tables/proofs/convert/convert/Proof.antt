@@ -1,6 +1,6 @@
 -- `tables::convert::convert` meets its contract.
 use Rattle.regions.proofs.Numbers.{bytes-all}
-use Rattle.block.proofs.Layouts.{small-layout, small-layout-one}
+use Rattle.block.proofs.Layouts.{small-one, small-current, small-as}
 use Rattle.tables.proofs.Converting.{not-edition-one, convert-length, old-room, old-header, convert-done, is-edition-one, converted}
 use borrow.Author.Needs.{needs}
 use Rattle.tables.proofs.convert.convert.Statement.{statement}
@@ -13,7 +13,7 @@ current-layout-requires : tie.Need-current-layout-requires
 current-layout-requires c κs = search needs
 
 block-good-requires : tie.Need-block-good-requires
-block-good-requires c κs = search (small-layout-one, small-layout, needs)
+block-good-requires c κs = search (small-as small-one, small-as small-current, needs)
 
 returns : tie.Need-returns
 returns c = search (not-edition-one, needs)
@@ -31,7 +31,7 @@ get-header-requires : tie.Need-get-header-requires
 get-header-requires c κs = search (old-header, needs)
 
 put-header-requires : tie.Need-put-header-requires
-put-header-requires c κs = search (small-layout, needs)
+put-header-requires c κs = search (small-as small-current, needs)
 
 same-length : tie.Need-same-length
 same-length c = search needs

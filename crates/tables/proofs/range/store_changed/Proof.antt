@@ -1,5 +1,5 @@
 -- `tables::range::store_changed` meets its contract.
-use Rattle.block.proofs.Layouts.{small-layout}
+use Rattle.block.proofs.Layouts.{small-current, small-as}
 use Rattle.tables.proofs.Ranging.{stored-full, stored-to}
 use borrow.Author.Needs.{needs}
 use Rattle.tables.proofs.range.store_changed.Statement.{statement}
@@ -21,7 +21,7 @@ with-tally-requires : tie.Need-with-tally-requires
 with-tally-requires c κs = search needs
 
 put-header-requires : tie.Need-put-header-requires
-put-header-requires c κs = search (small-layout, needs)
+put-header-requires c κs = search (small-as small-current, needs)
 
 same-length : tie.Need-same-length
 same-length c = search needs

@@ -1,6 +1,6 @@
 -- `tables::range::table_span` meets its contract.
 use Rattle.tables.proofs.Storing.{start-bound, capacity-now, start-now, span-end}
-use Rattle.block.proofs.Layouts.{small-layout}
+use Rattle.block.proofs.Layouts.{small-current, small-as}
 use native.Mathlib.Omega.{arith}
 use borrow.Author.Needs.{needs}
 use Rattle.tables.proofs.range.table_span.Statement.{statement}
@@ -10,7 +10,7 @@ current-layout-requires : tie.Need-current-layout-requires
 current-layout-requires c κs = search needs
 
 start-requires : tie.Need-start-requires
-start-requires c κs = search (small-layout, needs)
+start-requires c κs = search (small-as small-current, needs)
 
 capacity-requires : tie.Need-capacity-requires
 capacity-requires c κs = search needs

@@ -4,7 +4,7 @@ use Rattle.regions.specs.declared.Kind.the-variants.{Memory}
 use Rattle.regions.proofs.Numbers.{bytes-all}
 use Rattle.block.specs.Block.{current}
 use Rattle.block.proofs.Blocks.{good-length}
-use Rattle.block.proofs.Layouts.{small-layout}
+use Rattle.block.proofs.Layouts.{small-current, small-as}
 use Rattle.tables.proofs.Storing.{span-le}
 use Rattle.tables.proofs.Ranging.{range-whole, trim-done}
 use borrow.Author.Needs.{needs}
@@ -47,7 +47,7 @@ with-tally-requires c κs = search needs
 put-header-requires : tie.Need-put-header-requires
 put-header-requires c κs =
     let s = c .before .before .before .before .before .before .before .before .before .before .before .before in
-    (omega (arith, good-length current _ (s .pre .0), c .before .before .before .before .before .trim-table .kept), small-layout _ (c .before .current-layout .ensures))
+    (omega (arith, good-length current _ (s .pre .0), c .before .before .before .before .before .trim-table .kept), small-as small-current _ (c .before .current-layout .ensures))
 
 same-length : tie.Need-same-length
 same-length c = search needs

@@ -58,7 +58,7 @@ extern "C" {
 /* The slip: two little-endian u64. */
 #define MEMBLOCK_SLIP_LENGTH 16
 #define MEMBLOCK_SLIP_BASE_AT 0
-#define MEMBLOCK_SLIP_END_AT 8 /* the first address past the range */
+#define MEMBLOCK_SLIP_END_AT 8 /* the first address past the free run that holds the base */
 
 /* An E820 report: entries, little-endian, offsets within one. */
 #define MEMBLOCK_REPORT_ENTRY_LENGTH 20
@@ -120,8 +120,8 @@ extern "C" {
 #define MEMBLOCK_STACK_FREE 3712
 #define MEMBLOCK_STACK_TRIM 320
 #define MEMBLOCK_STACK_NEXT_FREE 384
-#define MEMBLOCK_STACK_FIND 448
-#define MEMBLOCK_STACK_ALLOCATE 512
+#define MEMBLOCK_STACK_FIND 384
+#define MEMBLOCK_STACK_ALLOCATE 448
 #define MEMBLOCK_STACK_INTAKE_E820 6912
 #define MEMBLOCK_STACK_CONVERT 320
 #define MEMBLOCK_STACK 6912 /* the most of these */
@@ -164,12 +164,14 @@ uint32_t memblock_trim(uint8_t *block, size_t length, uint64_t alignment);
 uint32_t memblock_next_free(const uint8_t *block, size_t length, uint64_t from, uint32_t node, uint8_t *slip, size_t slip_length);
 
 /* Slip: the lowest (bottom-up) or highest (top-down) multiple a of alignment with start <= a and a + size <= end whose size
- * addresses lie in one free run of the node, and a + size. End 0 is the block's limit, and an end above the limit is cut to it;
- * start is raised to MEMBLOCK_LOWEST_START, then end to start. Answers 0, 8, 1, 2, 3, 4 or 5. */
+ * addresses lie in one free run of the node, and the end of that run: the whole run's, past end and the limit too, never below
+ * a + size. End 0 is the block's limit, and an end above the limit is cut to it; start is raised to MEMBLOCK_LOWEST_START, then end
+ * to start. Answers 0, 8, 1, 2, 3, 4 or 5. */
 uint32_t memblock_find(const uint8_t *block, size_t length, uint64_t size, uint64_t alignment, uint64_t start, uint64_t end,
                        uint32_t node, uint8_t *slip, size_t slip_length);
 
-/* Reserves what find finds. Answers as find does, or 6; there is no second try at another address. */
+/* Reserves the size addresses that find finds. Answers as find does, the end being that of the run before the call, or 6; there is no
+ * second try at another address. */
 uint32_t memblock_allocate(uint8_t *block, size_t length, uint64_t size, uint64_t alignment, uint64_t start, uint64_t end,
                            uint32_t node, uint8_t *slip, size_t slip_length);
 

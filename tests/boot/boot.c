@@ -344,7 +344,7 @@ static void take(uint64_t size, uint64_t alignment, uint64_t start, uint64_t end
     if (allocate(&block, size, alignment, start, end, ANY) != MEMBLOCK_DONE)
         return;
     if (machine->fill != NULL && use_count < USES) {
-        machine->fill(slip_base(), slip_end());
+        machine->fill(slip_base(), slip_base() + size); /* the slip's end is that of the free run */
         uses[use_count].base = slip_base();
         uses[use_count].size = size;
         use_count++;
@@ -452,6 +452,16 @@ static void firmware(void)
     MARK(&block, base, KIB(32));
 }
 
+/* A trace buffer of all that its free run has left, at most 1 MiB; then where free memory goes on behind that run. */
+static void trace(void)
+{
+    if (find(&block, PAGE, PAGE, MIB(2), 0, ANY) != MEMBLOCK_DONE)
+        return;
+    uint64_t left = slip_end() - slip_base();
+    take(left < MIB(1) ? left : MIB(1), PAGE, slip_base(), 0);
+    next_free(&block, slip_end(), ANY, MEMBLOCK_SLIP_LENGTH);
+}
+
 static void allocations(void)
 {
     set(&block, GIB(4), MEMBLOCK_BOTTOM_UP);
@@ -480,6 +490,7 @@ static void allocations(void)
     set(&block, GIB(4), MEMBLOCK_BOTTOM_UP);
     take(KIB(512), PAGE, MIB(1), 0);
     take(KIB(256), KIB(64), 0, 0);
+    trace();
     set(&block, GIB(4), MEMBLOCK_TOP_DOWN);
     take(KIB(128), KIB(64), 0, 0);
     take(PAGE, PAGE, 0, MIB(16));

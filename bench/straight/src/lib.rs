@@ -150,8 +150,7 @@ pub fn find(
 ) -> u32 {
     let answer = || {
         let block = Block::check(block).ok_or(BAD_BLOCK)?;
-        let address = look(&block, size, alignment, start, end, node)?;
-        Ok((address, address + size))
+        look(&block, size, alignment, start, end, node)
     };
     with_slip(slip, answer)
 }
@@ -168,9 +167,9 @@ pub fn allocate(
 ) -> u32 {
     let answer = || {
         let mut block = Block::check(block).ok_or(BAD_BLOCK)?;
-        let address = look(&block, size, alignment, start, end, node)?;
+        let (address, run_end) = look(&block, size, alignment, start, end, node)?;
         match block.change(Which::Taken, address, size, |_| Some(PLAIN)) {
-            DONE => Ok((address, address + size)),
+            DONE => Ok((address, run_end)),
             refusal => Err(refusal),
         }
     };
@@ -198,7 +197,8 @@ fn check_node(node: u32) -> Result<(), u32> {
     Ok(())
 }
 
-/// The address that find gives on a good block, or why there is none.
+/// The address that find gives on a good block and its run's end, or why there is
+/// none.
 fn look<B: AsRef<[u8]>>(
     block: &Block<B>,
     size: u64,
@@ -206,7 +206,7 @@ fn look<B: AsRef<[u8]>>(
     start: u64,
     end: u64,
     node: u32,
-) -> Result<u64, u32> {
+) -> Result<(u64, u64), u32> {
     check_node(node)?;
     if !alignment.is_power_of_two() {
         return Err(BAD_ALIGNMENT);

@@ -19,8 +19,12 @@ pub struct Wish {
     pub node: u32,
 }
 
-/// The lowest or highest eligible address.
-pub fn find<B: AsRef<[u8]>>(block: &Block<B>, wish: &Wish, direction: Direction) -> Option<u64> {
+/// The lowest or highest eligible address, and the end of its run.
+pub fn find<B: AsRef<[u8]>>(
+    block: &Block<B>,
+    wish: &Wish,
+    direction: Direction,
+) -> Option<(u64, u64)> {
     match direction {
         Direction::BottomUp => lowest(block, wish.start, wish.end, wish.node, |from, to| {
             let address = from.checked_next_multiple_of(wish.alignment)?;
@@ -35,21 +39,22 @@ pub fn find<B: AsRef<[u8]>>(block: &Block<B>, wish: &Wish, direction: Direction)
 
 /// The lowest part of a free run at or above an address.
 pub fn lowest_run<B: AsRef<[u8]>>(block: &Block<B>, from: u64, node: u32) -> Option<(u64, u64)> {
-    lowest(block, from, u64::MAX, node, |from, to| Some((from, to)))
+    lowest(block, from, u64::MAX, node, |from, _| Some(from))
 }
 
 fn is_wanted(record: &Record, node: u32) -> bool {
     record.tag.flags != NO_MAP && (node == ANY_NODE || record.tag.node == node)
 }
 
-/// Shows `fit` the free runs inside the window, lowest first, until it answers.
-fn lowest<B: AsRef<[u8]>, T>(
+/// Shows `fit` the free runs inside the window, lowest first, until it answers with
+/// an address; the end is that of the whole run.
+fn lowest<B: AsRef<[u8]>>(
     block: &Block<B>,
     start: u64,
     end: u64,
     node: u32,
-    fit: impl Fn(u64, u64) -> Option<T>,
-) -> Option<T> {
+    fit: impl Fn(u64, u64) -> Option<u64>,
+) -> Option<(u64, u64)> {
     let mut taken = block.records(Which::Taken).peekable();
     for memory in block.records(Which::Memory) {
         let mut at = memory.base.max(start);
@@ -62,8 +67,8 @@ fn lowest<B: AsRef<[u8]>, T>(
                 break;
             }
             if at < next.base {
-                if let Some(answer) = fit(at, next.base) {
-                    return Some(answer);
+                if let Some(address) = fit(at, next.base) {
+                    return Some((address, next.base));
                 }
             }
             at = at.max(next.end());
@@ -73,26 +78,28 @@ fn lowest<B: AsRef<[u8]>, T>(
             taken.next();
         }
         if at < stop {
-            if let Some(answer) = fit(at, stop) {
-                return Some(answer);
+            if let Some(address) = fit(at, stop) {
+                let next = taken.peek().map_or(u64::MAX, |next| next.base);
+                return Some((address, memory.end().min(next)));
             }
         }
     }
     None
 }
 
-/// Shows `fit` the free runs inside the window, highest first, until it answers.
-fn highest<B: AsRef<[u8]>, T>(
+/// The same, highest first.
+fn highest<B: AsRef<[u8]>>(
     block: &Block<B>,
     start: u64,
     end: u64,
     node: u32,
-    fit: impl Fn(u64, u64) -> Option<T>,
-) -> Option<T> {
+    fit: impl Fn(u64, u64) -> Option<u64>,
+) -> Option<(u64, u64)> {
     let mut taken = block.records(Which::Taken).rev().peekable();
     for memory in block.records(Which::Memory).rev() {
         let stop = memory.base.max(start);
-        let mut at = memory.end().min(end);
+        let mut run_end = memory.end();
+        let mut at = run_end.min(end);
         if stop >= at || !is_wanted(&memory, node) {
             continue;
         }
@@ -101,10 +108,11 @@ fn highest<B: AsRef<[u8]>, T>(
                 break;
             }
             if next.end() < at {
-                if let Some(answer) = fit(next.end(), at) {
-                    return Some(answer);
+                if let Some(address) = fit(next.end(), at) {
+                    return Some((address, run_end));
                 }
             }
+            run_end = run_end.min(next.base);
             at = at.min(next.base);
             if at < stop {
                 break; // it may reach into the next memory record
@@ -112,8 +120,8 @@ fn highest<B: AsRef<[u8]>, T>(
             taken.next();
         }
         if stop < at {
-            if let Some(answer) = fit(stop, at) {
-                return Some(answer);
+            if let Some(address) = fit(stop, at) {
+                return Some((address, run_end));
             }
         }
     }

@@ -48,7 +48,7 @@ fn say_slip(number: u32, slip: &[u8; 16]) {
     say_number(number);
     say(b": ");
     say_hex(get_u64(slip, 0));
-    say(b" to ");
+    say(b" and ");
     say_hex(get_u64(slip, 8));
     say(b"\n");
 }

@@ -34,15 +34,17 @@ use Rattle.block.proofs.Blocks.{lists-ok}
 use Rattle.block.proofs.Reading.{Spellable, contents-spelled, good-spelled-block}
 use Rattle.block.proofs.Layouts.{small-current}
 use Rattle.runs.specs.declared.Query.{Query}
+use Rattle.runs.specs.declared.Way.{Way}
+use Rattle.runs.specs.declared.Way.the-variants.{Up, Down}
 use Rattle.search.specs.Search.{window, runsOf, found, foundPlace}
-use Rattle.search.specs.Answers.{Answer, answer, slipOf, refusal, checkNumber, asking, find, findAnswer, allocate, allocateAnswer, reserved}
-use Rattle.regions.specs.declared.Run.{Run}
+use Rattle.search.specs.Answers.{Answer, answer, slipOf, refusal, checkNumber, asking, placeAnswer, find, allocate, allocateAnswer, reserved}
 use Rattle.runs.specs.Places.{Hit, hitOf, placeOf}
-use Rattle.runs.specs.Steps.{lowestIn, highestIn}
+use Rattle.runs.specs.Eligible.{eligible}
+use Rattle.runs.specs.Steps.{extreme, firstIn}
 use Rattle.search.proofs.Found.{eligible-below, found-eligible}
 use Rattle.search.proofs.Answering.{number-ready}
-use Rattle.runs.proofs.Ways.{Up, Down, walk, falling}
-use Rattle.runs.proofs.Walks.{walk-lowest, walk-highest}
+use Rattle.runs.proofs.Ways.{walk, along}
+use Rattle.runs.proofs.Walks.{walk-first}
 use Rattle.memblock.specs.Calls.{Call, toFresh, toSet, toCommand, toTrim, toFind, toNextFree, toAllocate, toIntake, toConvert, answerOf, answers}
 
 -- ---- which contents can stand in a block, computed
@@ -77,32 +79,27 @@ abbrev kept : Contents → Kind → List Region → List ℕ → List ℕ → Re
 kept s k xs done full = cond (leb (length xs) (capacity current k)) (result 0 (withList s k xs) done) (result 6 s full)
 
 -- what find finds
-abbrev hitAt : Option Hit → Option ℕ
-hitAt none = none
-hitAt (some h) = some (h .at)
-
-abbrev seek : Contents → Query → Option ℕ
+abbrev seek : Contents → Query → Option Hit
 seek s q =
     let w = window (s .settings .limit .0) q in
-    cond (eqb (s .settings .direction) 1) (hitAt (walk Up w (s .memory) (s .taken)))
-    (hitAt (walk Down w (falling (s .memory)) (falling (s .taken))))
+    cond (eqb (s .settings .direction) 1) (walk Up w (along Up (s .memory)) (along Up (s .taken))) (walk Down w (along Down (s .memory)) (along Down (s .taken)))
 
-abbrev finds : Contents → Query → Option ℕ → Result
-finds s q none = result 5 s (replicate 16 0)
-finds s q (some a) = result 0 s (slipOf a (a + q .size .0))
+abbrev finds : Contents → Option Hit → Result
+finds s none = result 5 s (replicate 16 0)
+finds s (some h) = result 0 s (slipOf (h .at) (h .run .end .0))
 
-abbrev takes : Contents → Query → Option ℕ → Result
-takes s q none = result 5 s (replicate 16 0)
-takes s q (some a) = kept s Taken (edited s Taken (Fill (tag 0 0)) a (q .size .0)) (slipOf a (a + q .size .0)) (replicate 16 0)
+abbrev takes : Contents → ℕ → Option Hit → Result
+takes s size none = result 5 s (replicate 16 0)
+takes s size (some h) = kept s Taken (edited s Taken (Fill (tag 0 0)) (h .at) size) (slipOf (h .at) (h .run .end .0)) (replicate 16 0)
 
 unfoldable pub compute : Call → Contents → Result
 compute toFresh s = result 0 s []
 compute (toSet limit direction) s = result 0 (record { memory = s .memory; taken = s .taken; settings = settings limit direction }) []
 compute (toCommand c) s = kept s (table (c .verb)) (edited s (table (c .verb)) (changeOf (c .verb)) (c .base) (c .size)) [] []
 compute (toTrim align) s = result 0 (withList s Memory (roundEach align (s .memory))) []
-compute (toFind q slip) s = finds s q (seek s q)
+compute (toFind q slip) s = finds s (seek s q)
 compute (toNextFree from node slip) s = result 0 s []
-compute (toAllocate q slip) s = takes s q (seek s q)
+compute (toAllocate q slip) s = takes s (q .size .0) (seek s q)
 compute (toIntake report) s = result 0 s []
 compute (toConvert old) s = result 0 s []
 
@@ -152,15 +149,20 @@ module _ (s : Contents) (sp : Spellable current s) where
 
   -- ---- what find finds, by the walks
 
-  hit-at : (e : ℕ → Run) (o : Option ℕ) → hitAt (hitOf e o) ≡ o
-  hit-at e none = refl
-  hit-at e (some a) = refl
+  seek-is : (q : Query) → 0 < q .size .0 → 0 < q .align .0 → hitOf (runAt (runsOf s)) (found s q) ≡ seek s q
+  unfolding found firstIn
+  seek-is q i j = go (eqb (s .settings .direction) 1)
+    where
+      w : Query
+      w = window (s .settings .limit .0) q
 
-  seek-is : (q : Query) → 0 < q .size .0 → 0 < q .align .0 → found s q ≡ seek s q
-  unfolding found lowestIn highestIn
-  seek-is q i j =
-      let w : Query = window (s .settings .limit .0) q in
-      rw (walk-lowest w (s .memory) (s .taken) i j (canonical Memory) (canonical Taken), walk-highest w (s .memory) (s .taken) i j (canonical Memory) (canonical Taken), hit-at, hit-at)
+      by : (v : Way) → hitOf (runAt (runsOf s)) (extreme v (eligible w (runsOf s)) top) ≡ walk v w (along v (s .memory)) (along v (s .taken))
+      by v = sym (walk-first v w (s .memory) (s .taken) i j (canonical Memory) (canonical Taken))
+
+      go : (t : Bool) → hitOf (runAt (runsOf s)) (cond t (extreme Up (eligible w (runsOf s)) top) (extreme Down (eligible w (runsOf s)) top))
+          ≡ cond t (walk Up w (along Up (s .memory)) (along Up (s .taken))) (walk Down w (along Down (s .memory)) (along Down (s .taken)))
+      go true = by Up
+      go false = by Down
 
   -- ---- the calls
 
@@ -199,33 +201,33 @@ module _ (s : Contents) (sp : Spellable current s) where
   find-computed : (q : Query) (slip : List ℕ) → asks q slip ≡ true → answerOf (toFind q slip) (blockBytes current s) ≡ spelled (compute (toFind q slip) s)
   unfolding answerOf compute find foundPlace
   find-computed q slip e =
-      let a : Answer = findAnswer (blockBytes current s) (q .size .0) (foundPlace (contents current (blockBytes current s)) q) in
+      let a : Answer = placeAnswer (blockBytes current s) (foundPlace (contents current (blockBytes current s)) q) in
       let w = asked-is q slip e a in
       w .0 ∙ rw (says, seek-is q (w .1 .0) (w .1 .1)) (go (seek s q))
     where
-      go : (o : Option ℕ) → findAnswer (blockBytes current s) (q .size .0) (placeOf (hitOf (runAt (runsOf s)) o)) ≡ spelled (finds s q o)
+      go : (o : Option Hit) → placeAnswer (blockBytes current s) (placeOf o) ≡ spelled (finds s o)
       go none = refl
-      go (some x) = refl
+      go (some h) = refl
 
   allocate-computed : (q : Query) (slip : List ℕ) → asks q slip ≡ true → answerOf (toAllocate q slip) (blockBytes current s) ≡ spelled (compute (toAllocate q slip) s)
   unfolding answerOf compute allocate foundPlace
   allocate-computed q slip e =
       let a : Answer = allocateAnswer current (blockBytes current s) (q .size .0) (foundPlace (contents current (blockBytes current s)) q) in
       let w = asked-is q slip e a in
-      w .0 ∙ rw says (go (found s q) refl (w .1 .0) ∙ ap (λ (o : Option ℕ). spelled (takes s q o)) (seek-is q (w .1 .0) (w .1 .1)))
+      w .0 ∙ rw says (go (found s q) refl (w .1 .0) ∙ ap (λ (o : Option Hit). spelled (takes s (q .size .0) o)) (seek-is q (w .1 .0) (w .1 .1)))
     where
-      by : (x : ℕ) (t : Bool)
-          → reserved (blockBytes current s) x (q .size .0) (cond t (outcome 0 (blockBytes current (withList s Taken (edited s Taken (Fill (tag 0 0)) x (q .size .0))))) (outcome 6 (blockBytes current s)))
-          ≡ spelled (cond t (result 0 (withList s Taken (edited s Taken (Fill (tag 0 0)) x (q .size .0))) (slipOf x (x + q .size .0))) (result 6 s (replicate 16 0)))
-      by x true = refl
-      by x false = refl
+      by : (x end : ℕ) (t : Bool)
+          → reserved (blockBytes current s) x end (cond t (outcome 0 (blockBytes current (withList s Taken (edited s Taken (Fill (tag 0 0)) x (q .size .0))))) (outcome 6 (blockBytes current s)))
+          ≡ spelled (cond t (result 0 (withList s Taken (edited s Taken (Fill (tag 0 0)) x (q .size .0))) (slipOf x end)) (result 6 s (replicate 16 0)))
+      by x end true = refl
+      by x end false = refl
 
       go : (o : Option ℕ) → found s q ≡ o → 0 < q .size .0
-          → allocateAnswer current (blockBytes current s) (q .size .0) (placeOf (hitOf (runAt (runsOf s)) o)) ≡ spelled (takes s q o)
+          → allocateAnswer current (blockBytes current s) (q .size .0) (placeOf (hitOf (runAt (runsOf s)) o)) ≡ spelled (takes s (q .size .0) (hitOf (runAt (runsOf s)) o))
       go none h i = refl
       go (some x) h i =
           let l = eligible-below (window (s .settings .limit .0) q) s x i (found-eligible s q x h) in
-          rw (range-is Taken (Fill (tag 0 0)) x (q .size .0) (omega (arith, top-is))) (by x (leb (length (edited s Taken (Fill (tag 0 0)) x (q .size .0))) (capacity current Taken)))
+          rw (range-is Taken (Fill (tag 0 0)) x (q .size .0) (omega (arith, top-is))) (by x (runAt (runsOf s) x .end .0) (leb (length (edited s Taken (Fill (tag 0 0)) x (q .size .0))) (capacity current Taken)))
 
 -- ---- a list of calls
 

@@ -1,5 +1,5 @@
 -- Whatever the call and the bytes: a refusal leaves all as it was and a slip zero, and a call that is done leaves a good block. Assumes nothing.
-use Prim.Native.Nat.{ℕ, _+_}
+use Prim.Native.Nat.{ℕ}
 use mathlib.Core.Path.{_≡_, refl, ap, _∙_}
 use mathlib.Core.Bool.{Bool, true, false, cond, _&&_}
 use mathlib.Core.List.{List, []}
@@ -24,7 +24,7 @@ use Rattle.runs.specs.declared.Query.{Query}
 use Rattle.runs.specs.declared.fit.Place.{Place}
 use Rattle.runs.specs.declared.fit.Place.the-variants.{Here, Nowhere}
 use Rattle.search.specs.Search.{foundPlace, nextPlace}
-use Rattle.search.specs.Answers.{Answer, answer, refuse, unless as unlessAnswer, slipOf, withSlip, asking, nodeKnown, refusal, checkNumber, nextNumber, find, findAnswer, allocate, allocateAnswer, reserved, nextFree, nextFreeAnswer}
+use Rattle.search.specs.Answers.{Answer, answer, refuse, unless as unlessAnswer, slipOf, withSlip, asking, nodeKnown, refusal, checkNumber, nextNumber, placeAnswer, find, allocate, allocateAnswer, reserved, nextFree}
 use Rattle.memblock.specs.Calls.{Call, toFresh, toSet, toCommand, toTrim, toFind, toNextFree, toAllocate, toIntake, toConvert, plain, answerOf}
 use Rattle.memblock.specs.Refusals.{slipLent, RefusalSentence, DoneSentence}
 
@@ -154,22 +154,22 @@ module _ (b slip : List ℕ) where
   asking-fair n x c h =
       with-slip-fair b slip (unlessAnswer (eqb n 0) n b x) (λ l. unless-fair b slip l (eqb n 0) n x (eqb-false n 0) (λ e. h l (c (eqb-true n 0 e))))
 
+  place-fair : length slip ≡ 16 → good current b ≡ true → (p : Place) → Fair b slip (placeAnswer b p)
+  place-fair l g Nowhere = refuse-fair b slip l 5 (λ z. omega (arith, z))
+  place-fair l g (Here a run) = done-fair b slip l b _ g
+
   find-fair : (q : Query) → Fair b slip (find current q b slip)
   unfolding find
-  find-fair q = asking-fair (checkNumber current q b) _ (checks-good b (refusal q)) (λ l g. go l g (foundPlace (contents current b) q))
-    where
-      go : length slip ≡ 16 → good current b ≡ true → (p : Place) → Fair b slip (findAnswer b (q .size .0) p)
-      go l g Nowhere = refuse-fair b slip l 5 (λ z. omega (arith, z))
-      go l g (Here a run) = done-fair b slip l b _ g
+  find-fair q = asking-fair (checkNumber current q b) _ (checks-good b (refusal q)) (λ l g. place-fair l g (foundPlace (contents current b) q))
 
   allocate-fair : (q : Query) → Fair b slip (allocate current q b slip)
   unfolding allocate commandOutcome
   allocate-fair q = asking-fair (checkNumber current q b) _ (checks-good b (refusal q)) (λ l g. go l g (foundPlace (contents current b) q))
     where
-      reserving : length slip ≡ 16 → (a : ℕ) (o : Outcome) → good current (o .block) ≡ true → Fair b slip (reserved b a (q .size .0) o)
-      reserving l a o h = by (eqb (o .number) 0) refl
+      reserving : length slip ≡ 16 → (a end : ℕ) (o : Outcome) → good current (o .block) ≡ true → Fair b slip (reserved b a end o)
+      reserving l a end o h = by (eqb (o .number) 0) refl
         where
-          by : (t : Bool) → eqb (o .number) 0 ≡ t → Fair b slip (cond t (answer 0 (o .block) (slipOf a (a + q .size .0))) (refuse (o .number) b))
+          by : (t : Bool) → eqb (o .number) 0 ≡ t → Fair b slip (cond t (answer 0 (o .block) (slipOf a end)) (refuse (o .number) b))
           by true e = done-fair b slip l (o .block) _ h
           by false e = refuse-fair b slip l (o .number) (eqb-false (o .number) 0 e)
 
@@ -178,16 +178,12 @@ module _ (b slip : List ℕ) where
       go l g (Here a run) =
           let o : Outcome = changeRange current Taken (Fill (tag 0 0)) (a .0) (q .size .0) b in
           let h : good current (o .block) ≡ true = rw g at (command-good b g (command Reserve (a .0) (q .size .0))) in
-          reserving l (a .0) o h
+          reserving l (a .0) (run .end .0) o h
 
   next-free-fair : (from node : ℕ) → Fair b slip (nextFree current from node b slip)
   unfolding nextFree
   next-free-fair from node =
-      asking-fair (nextNumber current node b) _ (checks-good b (cond (nodeKnown node) 0 2)) (λ l g. go l g (nextPlace (contents current b) from node))
-    where
-      go : length slip ≡ 16 → good current b ≡ true → (p : Place) → Fair b slip (nextFreeAnswer b p)
-      go l g Nowhere = refuse-fair b slip l 5 (λ z. omega (arith, z))
-      go l g (Here a run) = done-fair b slip l b _ g
+      asking-fair (nextNumber current node b) _ (checks-good b (cond (nodeKnown node) 0 2)) (λ l g. place-fair l g (nextPlace (contents current b) from node))
 
 -- ---- every call
 

@@ -1,5 +1,5 @@
 -- Document 01's marked cases, 1 to 10, as one table: calls on a fresh block, what each answers, and the tables at the end. Assumes nothing.
-use Prim.Native.Nat.{ℕ, _+_, _-_, _^_}
+use Prim.Native.Nat.{ℕ, _-_, _^_}
 use mathlib.Core.Path.{_≡_}
 use mathlib.Core.List.{List, [], _∷_, map}
 use lib.ListN.{replicate}
@@ -62,9 +62,9 @@ find size align = toFind (query size align 0 0 4294967295) lent
 abbrev pub allocate : ℕ → ℕ → Call
 allocate size align = toAllocate (query size align 0 0 4294967295) lent
 
--- the slip of an address and a size, of a refusal, and of a call that takes none
+-- the slip of an address and the end of its free run (E5), of a refusal, and of a call that takes none
 abbrev pub gives : ℕ → ℕ → List ℕ
-gives a size = slipOf a (a + size)
+gives a end = slipOf a end
 
 abbrev pub zeroSlip : List ℕ
 zeroSlip = replicate 16 0
@@ -101,22 +101,22 @@ untaken memory memoryTotal calls numbers slips =
 unfoldable pub cases : List Case
 cases =
     -- 1: top-down 0x1F000, bottom-up 0x10000
-    withM [] 0 (find 0x1000 0x1000 ∷ bottomUp ∷ find 0x1000 0x1000 ∷ []) (0 ∷ 0 ∷ 0 ∷ []) (gives 0x1F000 0x1000 ∷ noSlip ∷ gives 0x10000 0x1000 ∷ [])
+    withM [] 0 (find 0x1000 0x1000 ∷ bottomUp ∷ find 0x1000 0x1000 ∷ []) (0 ∷ 0 ∷ 0 ∷ []) (gives 0x1F000 0x20000 ∷ noSlip ∷ gives 0x10000 0x20000 ∷ [])
     -- 2: twice, top-down
     ∷ withM (of 0x1E000 0x2000 0 ∷ []) 0x2000 (allocate 0x1000 0x1000 ∷ allocate 0x1000 0x1000 ∷ []) (0 ∷ 0 ∷ [])
-    (gives 0x1F000 0x1000 ∷ gives 0x1E000 0x1000 ∷ [])
+    (gives 0x1F000 0x20000 ∷ gives 0x1E000 0x1F000 ∷ [])
     -- 3: then free(0x1E800, 0x800)
     ∷ withM (of 0x1E000 0x800 0 ∷ of 0x1F000 0x1000 0 ∷ []) 0x1800
     (allocate 0x1000 0x1000 ∷ allocate 0x1000 0x1000 ∷ free 0x1E800 0x800 ∷ find 0x800 0x800 ∷ []) (0 ∷ 0 ∷ 0 ∷ 0 ∷ [])
-    (gives 0x1F000 0x1000 ∷ gives 0x1E000 0x1000 ∷ noSlip ∷ gives 0x1E800 0x800 ∷ [])
+    (gives 0x1F000 0x20000 ∷ gives 0x1E000 0x1F000 ∷ noSlip ∷ gives 0x1E800 0x1F000 ∷ [])
     -- 4: either direction
     ∷ withM (of 0x18000 0x1000 0 ∷ []) 0x1000 (reserve 0x18000 0x1000 ∷ find 0x8000 1 ∷ find 0x8001 1 ∷ bottomUp ∷ find 0x8000 1 ∷ find 0x8001 1 ∷ [])
-    (0 ∷ 0 ∷ 5 ∷ 0 ∷ 0 ∷ 5 ∷ []) (noSlip ∷ gives 0x10000 0x8000 ∷ zeroSlip ∷ noSlip ∷ gives 0x10000 0x8000 ∷ zeroSlip ∷ [])
+    (0 ∷ 0 ∷ 5 ∷ 0 ∷ 0 ∷ 5 ∷ []) (noSlip ∷ gives 0x10000 0x18000 ∷ zeroSlip ∷ noSlip ∷ gives 0x10000 0x18000 ∷ zeroSlip ∷ [])
     -- 5: a size larger than the end
     ∷ untaken (of 0x1000 0x1000 0 ∷ []) 0x1000 (add 0x1000 0x1000 0 ∷ find 0x3000 1 ∷ []) (0 ∷ 5 ∷ []) (noSlip ∷ zeroSlip ∷ [])
     -- 6: nothing below 4096
     ∷ untaken (of 0 0x2000 0 ∷ []) 0x2000 (add 0 0x2000 0 ∷ bottomUp ∷ find 0x1000 0x1000 ∷ find 0x1001 0x1000 ∷ []) (0 ∷ 0 ∷ 0 ∷ 5 ∷ [])
-    (noSlip ∷ noSlip ∷ gives 0x1000 0x1000 ∷ zeroSlip ∷ [])
+    (noSlip ∷ noSlip ∷ gives 0x1000 0x2000 ∷ zeroSlip ∷ [])
     -- 7: the cut at the top
     ∷ untaken (of (2 ^ 64 - 4096) 0xFFF 0 ∷ []) 0xFFF (add (2 ^ 64 - 4096) 0x2000 0 ∷ []) (0 ∷ []) (noSlip ∷ [])
     ∷ untaken [] 0 (add (2 ^ 64 - 1) 1 0 ∷ []) (0 ∷ []) (noSlip ∷ [])
@@ -130,5 +130,5 @@ cases =
     -- 10: no run across two tags
     ∷ untaken (of 0x10000 0x8000 0 ∷ of 0x18000 0x8000 1 ∷ []) 0x10000
     (add 0x10000 0x8000 0 ∷ add 0x18000 0x8000 1 ∷ find 0x8001 1 ∷ find 0x8000 1 ∷ bottomUp ∷ find 0x8001 1 ∷ find 0x8000 1 ∷ []) (0 ∷ 0 ∷ 5 ∷ 0 ∷ 0 ∷ 5 ∷ 0 ∷ [])
-    (noSlip ∷ noSlip ∷ zeroSlip ∷ gives 0x18000 0x8000 ∷ noSlip ∷ zeroSlip ∷ gives 0x10000 0x8000 ∷ [])
+    (noSlip ∷ noSlip ∷ zeroSlip ∷ gives 0x18000 0x20000 ∷ noSlip ∷ zeroSlip ∷ gives 0x10000 0x18000 ∷ [])
     ∷ []

@@ -99,7 +99,7 @@ pub extern "C" fn memblock_next_free(block: &[u8], from: u64, node: u32, slip: &
     search::find::next_free(block, Address(from), node, slip)
 }
 
-// Writes the address found and the end of its range. The block stays.
+// Writes the address found and the end of its free run. The block stays.
 #[no_mangle]
 pub extern "C" fn memblock_find(
     block: &[u8],
@@ -122,7 +122,7 @@ pub extern "C" fn memblock_find(
     search::find::find(block, q, slip)
 }
 
-// Reserves the address that find finds, and writes it and the end of its range.
+// Reserves the size addresses that find finds; writes the address and the end of the free run that held it before the call.
 #[no_mangle]
 pub extern "C" fn memblock_allocate(
     block: &mut [u8],

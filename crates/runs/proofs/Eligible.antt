@@ -20,7 +20,9 @@ use Rattle.regions.proofs.Rises.{Rises}
 use Rattle.runs.specs.declared.Query.{Query}
 use Rattle.runs.specs.Eligible.{asks, eligible, Lies}
 use Rattle.runs.specs.Steps.{serves}
-use Rattle.runs.proofs.Stretches.{NoneIn}
+use Rattle.runs.specs.declared.Way.{Way}
+use Rattle.runs.specs.declared.Way.the-variants.{Up, Down}
+use Rattle.runs.proofs.Ways.{From, last}
 use Rattle.runs.proofs.Fits.{inWindow}
 
 -- an address is eligible exactly when it lies so
@@ -55,22 +57,18 @@ eligible-is q xs a = go (eqb (a % q .align .0) 0)
 -- ---- eligible, stretch by stretch
 
 module _ (q : Query) (pos : 0 < q .size .0) {c n : ℕ} {v : State} {xs : List Region} (w : Rises c v n xs) where
-  pub none-eligible : (lo hi : ℕ) → ((a : ℕ) → lo ≤ a → a < hi → passes (asks q) (at xs a) ≡ false) → NoneIn (eligible q xs) lo hi
-  none-eligible lo hi h a l m =
-      eligible-is q xs a ∙ and-false (inWindow q a) (inOne (asks q) (q .size .0) a xs) (in-none (asks q) (q .size .0) a pos w (h a l m))
+  pub none-eligible : (a : ℕ) → passes (asks q) (at xs a) ≡ false → eligible q xs a ≡ false
+  none-eligible a h = eligible-is q xs a ∙ and-false (inWindow q a) (inOne (asks q) (q .size .0) a xs) (in-none (asks q) (q .size .0) a pos w h)
 
   pub eligible-here : (lo hi : ℕ) (t : Tag) → asks q t ≡ true → ((a : ℕ) → lo ≤ a → a < hi → at xs a ≡ Present t) → (at xs hi ≡ Present t → ⊥)
       → (a : ℕ) → lo ≤ a → a < hi → eligible q xs a ≡ inWindow q a && leb (a + q .size .0) hi
   eligible-here lo hi t e f g a l m =
       eligible-is q xs a ∙ ap (λ (b : Bool). inWindow q a && b) (in-run (asks q) (q .size .0) a pos w t hi m (λ b i j. f b (omega arith) j) g e)
 
--- nothing that begins outside the window is eligible
-module _ (q : Query) (xs : List Region) where
-  pub past-window : 0 < q .size .0 → (lo hi : ℕ) → q .end .0 ≤ lo → NoneIn (eligible q xs) lo hi
-  past-window pos lo hi h a l m = no (eligible q xs a) (λ t. omega (arith, eligible-lies q xs a t .end))
-
-  pub below-window : (lo hi : ℕ) → hi ≤ q .start .0 → NoneIn (eligible q xs) lo hi
-  below-window lo hi h a l m = no (eligible q xs a) (λ t. omega (arith, eligible-lies q xs a t .start))
+-- nothing from the end of the window on is eligible, in the order of a walk
+pub past-window : (v : Way) (q : Query) (xs : List Region) (a : ℕ) → 0 < q .size .0 → From v (last v q) a → eligible q xs a ≡ false
+past-window Up q xs a s h = no (eligible q xs a) (λ t. omega (arith, eligible-lies q xs a t .end))
+past-window Down q xs a s h = no (eligible q xs a) (λ t. omega (arith, eligible-lies q xs a t .start))
 
 -- ---- a record
 

@@ -2,7 +2,7 @@
 use Prim.Native.Nat.{ℕ, _+_, _-_, _/_, _%_, _≤_, _<_, min, max}
 use mathlib.Core.Path.{_≡_, refl, sym, ap, _∙_}
 use mathlib.Core.Bool.{Bool, true, false, cond, _&&_}
-use mathlib.Core.Option.{Option, none, some}
+use mathlib.Core.Option.{none, some}
 use native.Mathlib.Omega.{arith}
 use lib.Dec.{leb, eqb}
 use borrow.Author.Tests.{le-leb, lt-leb, leb-true, leb-false, eq-eqb, ne-eqb, eqb-true}
@@ -18,10 +18,11 @@ use Rattle.regions.specs.Runs.{runOf}
 use Rattle.runs.specs.declared.Query.{Query}
 use Rattle.regions.specs.declared.Run.{Run}
 use Rattle.runs.specs.Eligible.{onNode}
-use Rattle.runs.specs.Places.{Hit}
 use Rattle.runs.specs.Steps.{hitIn, spotOf, cutLow, cutHigh, serves, fitLow, fitHigh}
-use Rattle.runs.proofs.Ways.{Way, Up, Down, fit}
-use Rattle.runs.proofs.Stretches.{Before, Finds}
+use Rattle.runs.specs.declared.Way.{Way}
+use Rattle.runs.specs.declared.Way.the-variants.{Up, Down}
+use Rattle.runs.proofs.Ways.{near, far, From, Nearer, within, fit}
+use Rattle.runs.proofs.Stretches.{Finds}
 use Rattle.address.specs.declared.CheckedAddress.the-variants as checked
 
 -- a multiple of the alignment, and the size from there lies between start and end
@@ -75,24 +76,21 @@ module _ (q : Query) (some-size : 0 < q .size .0) (some-align : 0 < q .align .0)
   most a l f = down-most (min hi (q .end .0) - q .size .0) (q .align .0) some-align a (omega arith) (f .even)
 
   module _ (w : ℕ → Run) (run : (a : ℕ) → lo ≤ a → a < hi → runOf lo hi ≡ w a) where
-    abbrev Nearer : Way → ℕ → ℕ → Type 0
-    Nearer Up x a = x ≤ a
-    Nearer Down x a = a ≤ x
-
     -- x is found where it fits, if it fits exactly when something does, and nothing that fits is nearer
-    best : (v : Way) (x : ℕ) (b : Bool) → (b ≡ true → (lo ≤ x) × Fine q hi x) → ((a : ℕ) → lo ≤ a → Fine q hi a → (b ≡ true) × Nearer v x a)
-        → Finds v w p lo hi (hitIn lo hi (cond b (some x) none))
-    best v x false f g = λ a i j. no (p a) (λ t. clash false (g a i (fine a i j t) .0) refl)
+    best : (v : Way) (x : ℕ) (b : Bool) → (b ≡ true → (lo ≤ x) × Fine q hi x) → ((a : ℕ) → lo ≤ a → Fine q hi a → (b ≡ true) × (Nearer v a x → ⊥))
+        → Finds v w p (near v lo hi) (far v lo hi) (hitIn lo hi (cond b (some x) none))
+    best v x false f g = λ a i j. let m = within lo hi v a i j in no (p a) (λ t. clash false (g a (m .0) (fine a (m .0) (m .1) t) .0) refl)
     best v x true f g =
         let k = f refl .1 in
         let l = f refl .0 in
-        record { yes = yes x l k; low = l; high = omega arith; rest = before v g; run = run x l (omega arith) }
+        let h : x < hi = omega arith in
+        record { yes = yes x l k; rest = λ a i j. let m = inside v a l h i j in no (p a) (λ t. g a (m .0) (fine a (m .0) (m .1) t) .1 j); run = run x l h }
       where
-        before : (v : Way) → ((a : ℕ) → lo ≤ a → Fine q hi a → (true ≡ true) × Nearer v x a) → Before v p lo hi x
-        before Up g = λ a i j. no (p a) (λ t. let k = g a i (fine a i (omega (arith, f refl .1 .by)) t) .1 in omega arith)
-        before Down g = λ a i j. no (p a) (λ t. let k = g a (omega (arith, f refl .0)) (fine a (omega (arith, f refl .0)) j t) .1 in omega arith)
+        inside : (v : Way) (a : ℕ) → lo ≤ x → x < hi → From v (near v lo hi) a → Nearer v a x → (lo ≤ a) × (a < hi)
+        inside Up a l h i j = (i, omega arith)
+        inside Down a l h i j = (omega arith, i)
 
-    pub fit-finds : (v : Way) → Finds v w p lo hi (fit v q lo hi)
+    pub fit-finds : (v : Way) → Finds v w p (near v lo hi) (far v lo hi) (fit v q (near v lo hi) (far v lo hi))
     unfolding fitLow cutLow fitHigh cutHigh
     fit-finds Up =
         let x = lowAt q lo in
@@ -100,7 +98,7 @@ module _ (q : Query) (some-size : 0 < q .size .0) (some-align : 0 < q .align .0)
         best Up x (leb (x + q .size .0) (min hi (q .end .0)))
         (λ e. let h = leb-true (x + q .size .0) (min hi (q .end .0)) e in
         (omega arith, record { even = up-multiple (max lo (q .start .0)) (q .align .0) some-align; from = omega arith; to = omega arith; by = omega arith }))
-        (λ a i f. let k = least a i f in (le-leb (x + q .size .0) (min hi (q .end .0)) (omega arith), k))
+        (λ a i f. let k = least a i f in (le-leb (x + q .size .0) (min hi (q .end .0)) (omega arith), λ l. omega arith))
     fit-finds Down =
         let x = highAt q hi in
         let z = down-le (min hi (q .end .0) - q .size .0) (q .align .0) some-align in
@@ -109,16 +107,7 @@ module _ (q : Query) (some-size : 0 < q .size .0) (some-align : 0 < q .align .0)
         let i = leb-true (q .size .0) (min hi (q .end .0)) (h .0) in
         let j = leb-true (max lo (q .start .0)) x (h .1) in
         (omega arith, record { even = down-multiple (min hi (q .end .0) - q .size .0) (q .align .0) some-align; from = omega arith; to = omega arith; by = omega arith }))
-        (λ a i f. let k = most a i f in (and (le-leb (q .size .0) (min hi (q .end .0)) (omega arith)) (le-leb (max lo (q .start .0)) x (omega arith)), k))
-
--- nothing fits where there is nothing
-pub fit-none : (v : Way) (q : Query) (lo hi : ℕ) → 0 < q .size .0 → 0 < q .align .0 → hi ≤ lo → fit v q lo hi ≡ none
-fit-none v q lo hi s l h =
-    go (fit v q lo hi) (fit-finds q s l (λ a. inWindow q a && leb (a + q .size .0) hi) lo hi (λ a i j. refl) (λ a. runOf lo hi) (λ a i j. refl) v)
-  where
-    go : (o : Option Hit) → Finds v (λ a. runOf lo hi) (λ a. inWindow q a && leb (a + q .size .0) hi) lo hi o → o ≡ none
-    go none f = refl
-    go (some x) f = absurd (omega (arith, f .low, f .high))
+        (λ a i f. let k = most a i f in (and (le-leb (q .size .0) (min hi (q .end .0)) (omega arith)) (le-leb (max lo (q .start .0)) x (omega arith)), λ l. omega arith))
 
 -- ---- the code's steps: whether a record serves
 

@@ -1,6 +1,6 @@
+pub mod Along
 pub mod Eligible
 pub mod Extremes
-pub mod Fall
 pub mod Fits
 pub mod Steps
 pub mod Stretches

@@ -33,13 +33,16 @@ use Rattle.records.proofs.Tables.{good-table}
 use Rattle.records.proofs.Placing.{drop-read}
 use Rattle.runs.specs.declared.Query.{Query}
 use Rattle.runs.specs.declared.walk.Bounds.{Bounds}
+use Rattle.runs.specs.declared.fit.Place.{Place}
 use Rattle.runs.specs.declared.fit.Place.the-variants.{Here, Nowhere}
 use Rattle.runs.specs.Eligible.{asks, orElse}
 use Rattle.runs.specs.Places.{Hit, placeOf}
-use Rattle.runs.specs.Steps.{hitIn, spotOf, boundsOf, boundsLow, boundsHigh, serves, cutLow, cutHigh, fitLow, fitHigh, Searchable, lowestIn, highestIn}
-use Rattle.runs.proofs.Ways.{Way, Up, Down, gaps, walk}
-use Rattle.runs.proofs.Fall.{backs, backs-falling}
-use Rattle.runs.proofs.Walks.{walk-lowest, walk-highest}
+use Rattle.runs.specs.Steps.{hitIn, spotOf, boundsOf, boundsLow, boundsHigh, serves, cutLow, cutHigh, fitLow, fitHigh, Searchable, firstIn}
+use Rattle.runs.specs.declared.Way.{Way}
+use Rattle.runs.specs.declared.Way.the-variants.{Up, Down}
+use Rattle.runs.proofs.Ways.{choose, near, far, gaps, walk}
+use Rattle.runs.proofs.Along.{backs, backs-falling}
+use Rattle.runs.proofs.Walks.{walk-first}
 use Rattle.runs.proofs.Window.{canonical-drop, from-memory, from-taken}
 
 -- ---- one record of a good table
@@ -76,12 +79,10 @@ There Up n i = i < n
 There Down n i = i ≡ 0 → ⊥
 
 abbrev index : Way → ℕ → ℕ
-index Up i = i
-index Down i = i - 1
+index v i = choose v i (i - 1)
 
 abbrev after : Way → ℕ → ℕ
-after Up i = i + 1
-after Down i = i - 1
+after v i = choose v (i + 1) (i - 1)
 
 over-or-there : (v : Way) (n i : ℕ) → Over v n i ⊎ There v n i
 over-or-there Up n i = le-or-lt n i
@@ -94,8 +95,7 @@ sized Down t n i l g h o = record-at n (i - 1) l (good-rises t (readRegions n l)
 
 -- how many records are left, and that the place behind the next is a number
 abbrev pub remain : Way → ℕ → ℕ → ℕ
-remain Up n i = n - i
-remain Down n i = i
+remain v n i = choose v (n - i) i
 
 abbrev Room : Way → ℕ → Type 0
 Room Up i = i + 1 < 18446744073709551616
@@ -115,8 +115,7 @@ room-after Down n i h l c = omega arith
 
 -- the records left, in the order of the walk
 abbrev left : Way → ℕ → List ℕ → ℕ → List Region
-left Up n l i = readRegions (n - i) (drop (24 * i) l)
-left Down n l i = backs i l
+left v n l i = choose v (readRegions (n - i) (drop (24 * i) l)) (backs i l)
 
 left-none : (v : Way) (n : ℕ) (l : List ℕ) (i : ℕ) → Over v n i → left v n l i ≡ []
 unfolding backs
@@ -131,13 +130,11 @@ left-next Down n l (suc i) h = let e : suc i - 1 ≡ i = omega arith in rw e
 
 -- the bounds of the next record
 abbrev bounds : Way → ℕ → List ℕ → ℕ → Bounds
-bounds Up n l j = boundsLow n l j
-bounds Down n l j = boundsHigh l j
+bounds v n l j = choose v (boundsLow n l j) (boundsHigh l j)
 
 -- where there is none
 abbrev edge : Way → ℕ
-edge Up = 18446744073709551615
-edge Down = 0
+edge v = choose v 18446744073709551615 0
 
 pub bounds-none : (v : Way) (n : ℕ) (l : List ℕ) (j : ℕ) (e : Address) → e .0 ≡ edge v → Over v n j → record { base = e; end = e } ≡ bounds v n l j
 bounds-none Up n l j e x h = rw (le-leb n j h) (λ i. record { base = record { 0 = x i }; end = record { 0 = x i } })
@@ -173,83 +170,66 @@ place-next (some x) u A s lo hi i g h = absurd (zero-not-one cc)
 -- ---- the steps
 
 abbrev cut : Way → Query → ℕ → ℕ → Option ℕ
-cut Up = cutLow
-cut Down = cutHigh
+cut v = choose v cutLow cutHigh
 
 -- where the gap before the taken record t begins and ends
 abbrev nearLow : Way → Bounds → Address → Address
-nearLow Up t x = x
-nearLow Down t x = t .end
+nearLow v t x = choose v x (t .end)
 
 abbrev nearHigh : Way → Bounds → Address → Address
-nearHigh Up t y = t .base
-nearHigh Down t y = y
+nearHigh v t y = choose v (t .base) y
 
 -- what is left behind t
 abbrev farLow : Way → Bounds → ℕ → ℕ
-farLow Up t x = max x (t .end .0)
-farLow Down t x = x
+farLow v t x = choose v (max x (t .end .0)) x
 
 abbrev farHigh : Way → Bounds → ℕ → ℕ
-farHigh Up t y = y
-farHigh Down t y = min y (t .base .0)
+farHigh v t y = choose v y (min y (t .base .0))
 
 -- where the last gap of a record ends, before t
 abbrev lastLow : Way → Bounds → ℕ → ℕ
-lastLow Up t x = x
-lastLow Down t x = max x (t .end .0)
+lastLow v t x = choose v x (max x (t .end .0))
 
 abbrev lastHigh : Way → Bounds → ℕ → ℕ
-lastHigh Up t y = min y (t .base .0)
-lastHigh Down t y = y
+lastHigh v t y = choose v (min y (t .base .0)) y
 
 -- t lies behind what is left of the record from lo to hi, or meets it; it reaches past it, or ends in it or with it
 abbrev Behind : Way → Bounds → ℕ → ℕ → Type 0
-Behind Up t lo hi = hi ≤ t .base .0
-Behind Down t lo hi = t .end .0 ≤ lo
+Behind v t lo hi = choose v hi (t .end .0) ≤ choose v (t .base .0) lo
 
 abbrev Meets : Way → Bounds → ℕ → ℕ → Type 0
-Meets Up t lo hi = t .base .0 < hi
-Meets Down t lo hi = lo < t .end .0
+Meets v t lo hi = choose v (t .base .0) lo < choose v hi (t .end .0)
 
 abbrev Reaches : Way → Bounds → ℕ → ℕ → Type 0
-Reaches Up t lo hi = hi < t .end .0
-Reaches Down t lo hi = t .base .0 < lo
+Reaches v t lo hi = choose v hi (t .base .0) < choose v (t .end .0) lo
 
 abbrev Ends : Way → Bounds → ℕ → ℕ → Type 0
-Ends Up t lo hi = t .end .0 ≤ hi
-Ends Down t lo hi = lo ≤ t .base .0
+Ends v t lo hi = choose v (t .end .0) lo ≤ choose v hi (t .base .0)
 
 abbrev reaches : Way → Bounds → ℕ → ℕ → Bool
-reaches Up t lo hi = ltb hi (t .end .0)
-reaches Down t lo hi = ltb (t .base .0) lo
+reaches v t lo hi = ltb (choose v hi (t .base .0)) (choose v (t .end .0) lo)
 
 -- such bounds meet nothing
 never : (v : Way) (t : Bounds) → t .base .0 ≡ edge v → t .end .0 ≡ edge v → (lo hi : ℕ) → hi < 18446744073709551616 → Meets v t lo hi → ⊥
 never Up t b e lo hi s l = omega arith
 never Down t b e lo hi s l = omega arith
 
-reaches-yes : (v : Way) (t : Bounds) (lo hi : ℕ) → Reaches v t lo hi → reaches v t lo hi ≡ true
-reaches-yes Up t lo hi h = lt-ltb hi (t .end .0) h
-reaches-yes Down t lo hi h = lt-ltb (t .base .0) lo h
-
-reaches-no : (v : Way) (t : Bounds) (lo hi : ℕ) → Ends v t lo hi → reaches v t lo hi ≡ false
-reaches-no Up t lo hi h = le-ltb hi (t .end .0) h
-reaches-no Down t lo hi h = le-ltb (t .base .0) lo h
-
 -- ---- a gap, by numbers, and the taken record behind it
+
+abbrev gapsIn : Way → Query → (List Region → Option Hit) → ℕ → ℕ → List Region → Option Hit
+gapsIn v q k lo hi ts = gaps v q k (near v lo hi) (far v lo hi) ts
 
 module _ (q : Query) (k : List Region → Option Hit) (low lo top hi : Address) (from : lo .0 ≡ max (low .0) (q .start .0)) (upto : hi .0 ≡ min (top .0) (q .end .0)) where
   -- nothing is taken any more
   none-left : (v : Way) (e : Bounds) → top .0 < 18446744073709551616 → e .base .0 ≡ edge v → e .end .0 ≡ edge v
-      → gaps v q k (low .0) (top .0) [] ≡ orElse (hitIn (lastLow v e (low .0)) (lastHigh v e (top .0)) (cut v q (lo .0) (hi .0))) (k [])
+      → gapsIn v q k (low .0) (top .0) [] ≡ orElse (hitIn (lastLow v e (low .0)) (lastHigh v e (top .0)) (cut v q (lo .0) (hi .0))) (k [])
   unfolding gaps fitLow fitHigh
   none-left Up e s x y = let m : min (top .0) (e .base .0) ≡ top .0 = omega arith in rw (m, from, upto)
   none-left Down e s x y = let m : max (low .0) (e .end .0) ≡ low .0 = omega arith in rw (m, from, upto)
 
   module _ (r : Region) (us : List Region) (some : 0 < r .size .0) where
     -- the record lies behind it
-    behind-it : (v : Way) → Behind v (boundsOf r) (lo .0) (hi .0) → gaps v q k (low .0) (top .0) (r ∷ us)
+    behind-it : (v : Way) → Behind v (boundsOf r) (lo .0) (hi .0) → gapsIn v q k (low .0) (top .0) (r ∷ us)
         ≡ orElse (hitIn (lastLow v (boundsOf r) (low .0)) (lastHigh v (boundsOf r) (top .0)) (cut v q (lo .0) (hi .0))) (k (r ∷ us))
     unfolding gaps fitLow fitHigh
     behind-it Up l =
@@ -262,9 +242,9 @@ module _ (q : Query) (k : List Region → Option Hit) (low lo top hi : Address) 
         rw (x, m, ← upto)
 
     -- or in it
-    in-it : (v : Way) → Meets v (boundsOf r) (lo .0) (hi .0) → gaps v q k (low .0) (top .0) (r ∷ us)
+    in-it : (v : Way) → Meets v (boundsOf r) (lo .0) (hi .0) → gapsIn v q k (low .0) (top .0) (r ∷ us)
         ≡ orElse (hitIn (nearLow v (boundsOf r) low .0) (nearHigh v (boundsOf r) top .0) (cut v q (nearLow v (boundsOf r) lo .0) (nearHigh v (boundsOf r) hi .0)))
-        (cond (reaches v (boundsOf r) (lo .0) (hi .0)) (k (r ∷ us)) (gaps v q k (farLow v (boundsOf r) (low .0)) (farHigh v (boundsOf r) (top .0)) us))
+        (cond (reaches v (boundsOf r) (lo .0) (hi .0)) (k (r ∷ us)) (gapsIn v q k (farLow v (boundsOf r) (low .0)) (farHigh v (boundsOf r) (top .0)) us))
     unfolding gaps fitLow fitHigh
     in-it Up l =
         let m : min (top .0) (r .base .0) ≡ r .base .0 = omega arith in
@@ -284,7 +264,7 @@ module _ (v : Way) (memory : List ℕ) (mcount : ℕ) (taken : List ℕ) (tcount
 
   -- the gaps from lo to hi, and then those records
   unfoldable pub gapsFrom : ℕ → ℕ → ℕ → ℕ → Option Hit
-  gapsFrom i j lo hi = gaps v q (walk v q (left v mcount memory i)) lo hi (left v tcount taken j)
+  gapsFrom i j lo hi = gapsIn v q (walk v q (left v mcount memory i)) lo hi (left v tcount taken j)
 
   -- where a walk stands
   pub record Stands (i j : ℕ) (t : Bounds) : Type 0 where
@@ -385,7 +365,7 @@ module _ (v : Way) (memory : List ℕ) (mcount : ℕ) (taken : List ℕ) (tcount
 
             -- the taken record reaches past the record
             pub covered : Reaches v t (lo .0) (hi .0) → Walking A i j t
-            covered h = record { stands = g .stands; rest = rw (reaches-yes v t (lo .0) (hi .0) h) at after-gap }
+            covered h = record { stands = g .stands; rest = rw (lt-ltb (choose v (hi .0) (t .base .0)) (choose v (t .end .0) (lo .0)) h) at after-gap }
 
             -- or ends in it, or with it
             pub onward : (low′ lo′ top′ hi′ : Address) → low′ .0 ≡ farLow v t (low .0) → lo′ .0 ≡ farLow v t (lo .0) → top′ .0 ≡ farHigh v t (top .0) → hi′ .0 ≡ farHigh v t (hi .0)
@@ -397,7 +377,7 @@ module _ (v : Way) (memory : List ℕ) (mcount : ℕ) (taken : List ℕ) (tcount
                   small = rw c (k .1 .1);
                   from = rw (a, b) (k .0);
                   upto = rw (c, d) (k .1 .0);
-                  rest = rw (a, c) (rw (reaches-no v t (lo .0) (hi .0) h) at after-gap);
+                  rest = rw (a, c) (rw (le-ltb (choose v (hi .0) (t .base .0)) (choose v (t .end .0) (lo .0)) h) at after-gap);
                 }
               where
                 cut-again : (v : Way) → lo .0 ≡ max (low .0) (q .start .0) → hi .0 ≡ min (top .0) (q .end .0) → top .0 < 18446744073709551616
@@ -442,7 +422,7 @@ module _ (memory : List ℕ) (mcount : ℕ) (taken : List ℕ) (tcount : ℕ) (q
   some-taken j h p = (h, (p .room-taken, p .good-taken))
 
   pub begin-up : (i k j : ℕ) (t : Bounds) → Searchable memory mcount taken tcount q → tcount < 18446744073709551616 → i ≡ endingBy (q .start .0) ms
-      → k ≡ endingBy (q .start .0) ts → j ≡ k - 1 → t ≡ boundsLow tcount taken j → Walking Up memory mcount taken tcount q (lowestIn ms ts q) i j t
+      → k ≡ endingBy (q .start .0) ts → j ≡ k - 1 → t ≡ boundsLow tcount taken j → Walking Up memory mcount taken tcount q (firstIn Up ms ts q) i j t
   unfolding walkFrom
   begin-up i k j t p n a b c e =
       let x : i ≤ mcount = place-le memory mcount (q .start .0) i a in
@@ -450,20 +430,24 @@ module _ (memory : List ℕ) (mcount : ℕ) (taken : List ℕ) (tcount : ℕ) (q
       let z : j ≡ endingBy (q .start .0) ts - 1 = rw (← b) c in
       let m = good-rises Memory ms (p .good-memory) in
       let u = good-rises Taken ts (p .good-taken) in
-      let f : lowestIn (drop i ms) (drop j ts) q ≡ lowestIn ms (drop j ts) q = rw a (from-memory q (p .size) ms (drop j ts) m) in
-      let g : lowestIn ms (drop j ts) q ≡ lowestIn ms ts q = rw z (from-taken q (p .size) ms ts m u) in
+      let f : firstIn Up (drop i ms) (drop j ts) q ≡ firstIn Up ms (drop j ts) q = rw a (from-memory q (p .size) ms (drop j ts) m) in
+      let g : firstIn Up ms (drop j ts) q ≡ firstIn Up ms ts q = rw z (from-taken q (p .size) ms ts m u) in
       record {
         stands = record { ask = p; count = n; few = x; places = y; next = e };
         rest = rw (← drop-read i mcount memory x, ← drop-read j tcount taken y)
-            (walk-lowest q (drop i ms) (drop j ts) (p .size) (power-some (q .align .0) (p .align)) (canonical-drop i ms m) (canonical-drop j ts u) ∙ f ∙ g);
+            (walk-first Up q (drop i ms) (drop j ts) (p .size) (power-some (q .align .0) (p .align)) (canonical-drop i ms m) (canonical-drop j ts u) ∙ f ∙ g);
       }
 
   pub begin-down : (t : Bounds) → Searchable memory mcount taken tcount q → tcount < 18446744073709551616 → t ≡ boundsHigh taken tcount
-      → Walking Down memory mcount taken tcount q (highestIn ms ts q) mcount tcount t
+      → Walking Down memory mcount taken tcount q (firstIn Down ms ts q) mcount tcount t
   unfolding walkFrom
   begin-down t p n e =
       record {
         stands = record { ask = p; count = n; few = omega arith; places = omega arith; next = e };
         rest = rw (backs-falling mcount memory, backs-falling tcount taken)
-            (walk-highest q ms ts (p .size) (power-some (q .align .0) (p .align)) (good-rises Memory ms (p .good-memory)) (good-rises Taken ts (p .good-taken)));
+            (walk-first Down q ms ts (p .size) (power-some (q .align .0) (p .align)) (good-rises Memory ms (p .good-memory)) (good-rises Taken ts (p .good-taken)));
       }
+
+  -- the way that was asked is the one that was walked
+  pub walked : (asked way : Way) → asked ≡ way → (f : Place) → f ≡ placeOf (firstIn way ms ts q) → f ≡ placeOf (firstIn asked ms ts q)
+  walked asked way e f is = rw e is

@@ -1,98 +1,71 @@
 -- Bounded searches put together from stretches: what a search finds in one stretch and in the next is what it finds in both. Assumes nothing.
-use Prim.Native.Nat.{ℕ, zero, suc, _≤_, _<_}
+use Prim.Native.Nat.{ℕ, zero, suc, _<_}
 use mathlib.Core.Path.{_≡_, refl, ap, _∙_}
 use mathlib.Core.Bool.{Bool, true, false}
 use mathlib.Core.Option.{Option, none, some}
-use mathlib.Core.Logic.{_⊎_, inl, inr}
+use mathlib.Core.Logic.{⊎-elim}
 use native.Mathlib.Omega.{arith}
-use Rattle.address.proofs.Tests.{clash, le-or-lt}
-use Rattle.runs.specs.Eligible.{orElse, lowest, highest, Gives}
+use Rattle.address.proofs.Tests.{clash}
+use Rattle.runs.specs.Eligible.{orElse, lowest, Gives}
 use Rattle.regions.specs.declared.Run.{Run}
 use Rattle.runs.specs.Places.{Hit, hitOf}
-use Rattle.runs.proofs.Ways.{Way, Up, Down, extreme}
+use Rattle.runs.specs.declared.Way.{Way}
+use Rattle.runs.specs.declared.Way.the-variants.{Up, Down}
+use Rattle.runs.specs.Steps.{extreme}
+use Rattle.runs.proofs.Ways.{near, far, Before, From, Nearer, before-or-from, by-points}
 use Rattle.runs.proofs.Extremes.{lowest-gives, highest-gives}
 
--- p holds at no address from c to below d
-abbrev pub NoneIn : (ℕ → Bool) → ℕ → ℕ → Type 0
-NoneIn p c d = (a : ℕ) → c ≤ a → a < d → p a ≡ false
+-- p holds at none from the point a to the point b
+abbrev pub NoneIn : Way → (ℕ → Bool) → ℕ → ℕ → Type 0
+NoneIn v p a b = (x : ℕ) → From v a x → Before v b x → p x ≡ false
 
--- p holds at none before x, in the order of the walk
-abbrev pub Before : Way → (ℕ → Bool) → ℕ → ℕ → ℕ → Type 0
-Before Up p c d x = NoneIn p c x
-Before Down p c d x = NoneIn p (suc x) d
-
--- x is the first address from c to below d at which p holds, with the run that w gives it
-pub record First (v : Way) (w : ℕ → Run) (p : ℕ → Bool) (c d : ℕ) (x : Hit) : Type 0 where
+-- p holds at x, and from a on nowhere that a walk comes to sooner; and x has the run that w gives it
+pub record First (v : Way) (w : ℕ → Run) (p : ℕ → Bool) (a : ℕ) (x : Hit) : Type 0 where
   pub yes : p (x .at) ≡ true
-  pub low : c ≤ x .at
-  pub high : x .at < d
-  pub rest : Before v p c d (x .at)
+  pub rest : (y : ℕ) → From v a y → Nearer v y (x .at) → p y ≡ false
   pub run : x .run ≡ w (x .at)
 
--- o is what a walk from c to below d finds
+-- o is what a walk from a to b finds
 abbrev pub Finds : Way → (ℕ → Run) → (ℕ → Bool) → ℕ → ℕ → Option Hit → Type 0
-Finds v w p c d none = NoneIn p c d
-Finds v w p c d (some x) = First v w p c d x
+Finds v w p a b none = NoneIn v p a b
+Finds v w p a b (some x) = First v w p a x
 
-none-in-join : (p : ℕ → Bool) (c d e : ℕ) → NoneIn p c d → NoneIn p d e → NoneIn p c e
-none-in-join p c d e f g a l m = go (le-or-lt d a)
-  where
-    go : (d ≤ a) ⊎ (a < d) → p a ≡ false
-    go (inl h) = g a h m
-    go (inr h) = f a l h
+module _ (v : Way) (w : ℕ → Run) (p : ℕ → Bool) where
+  -- so too as far as c, if there is nothing more
+  pub extend : (a b c : ℕ) (o : Option Hit) → ((x : ℕ) → From v a x → From v b x → Before v c x → p x ≡ false) → Finds v w p a b o → Finds v w p a c o
+  extend a b c (some x) h f = f
+  extend a b c none h f = λ x i j. ⊎-elim (f x i) (λ k. h x i k j) (before-or-from v b x)
 
--- upwards what is found in the lower stretch comes first
-pub join-up : (w : ℕ → Run) (p : ℕ → Bool) (c d e : ℕ) (o u : Option Hit) → c ≤ d → d ≤ e → Finds Up w p c d o → Finds Up w p d e u → Finds Up w p c e (orElse o u)
-join-up w p c d e none none l m f g = none-in-join p c d e f g
-join-up w p c d e none (some x) l m f g = record { yes = g .yes; low = omega arith; high = g .high; rest = none-in-join p c d (x .at) f (g .rest); run = g .run }
-join-up w p c d e (some x) u l m f g = record { yes = f .yes; low = f .low; high = omega arith; rest = f .rest; run = f .run }
+  -- what is found in the first stretch comes first
+  pub join : (a b c : ℕ) (o u : Option Hit) → Finds v w p a b o → Finds v w p b c u → Finds v w p a c (orElse o u)
+  join a b c (some x) u f g = f
+  join a b c none none f g = extend a b c none (λ x i. g x) f
+  join a b c none (some y) f g = record { yes = g .yes; rest = λ x i j. ⊎-elim (f x i) (λ k. g .rest x k j) (before-or-from v b x); run = g .run }
 
--- downwards what is found in the higher
-pub join-down : (w : ℕ → Run) (p : ℕ → Bool) (c d e : ℕ) (o u : Option Hit) → c ≤ d → d ≤ e → Finds Down w p d e o → Finds Down w p c d u → Finds Down w p c e (orElse o u)
-join-down w p c d e none none l m f g = none-in-join p c d e g f
-join-down w p c d e none (some x) l m f g = record { yes = g .yes; low = g .low; high = omega arith; rest = none-in-join p (suc (x .at)) d e (g .rest) f; run = g .run }
-join-down w p c d e (some x) u l m f g = record { yes = f .yes; low = omega arith; high = f .high; rest = f .rest; run = f .run }
+-- ---- what is found among all numbers below n is the lowest, or the highest
 
--- ---- what is found from 0 on is the lowest, or the highest
+same-place : (v : Way) (x y : ℕ) → (Nearer v x y → ⊥) → (Nearer v y x → ⊥) → x ≡ y
+same-place Up x y f g = omega arith
+same-place Down x y f g = omega arith
 
-same-place : (x y : ℕ) → (x < y → ⊥) → (y < x → ⊥) → x ≡ y
-same-place x y f g = go (le-or-lt x y) (le-or-lt y x)
-  where
-    go : (x ≤ y) ⊎ (y < x) → (y ≤ x) ⊎ (x < y) → x ≡ y
-    go (inl h) (inl i) = omega arith
-    go (inl h) (inr i) = absurd (f i)
-    go (inr h) i = absurd (g h)
+module _ (v : Way) (w : ℕ → Run) (p : ℕ → Bool) (n : ℕ) (below : (x : ℕ) → p x ≡ true → x < n) where
+  one-answer : (o : Option Hit) → Finds v w p (near v 0 n) (far v 0 n) o → (u : Option ℕ) → Gives p (Nearer v) n u → o ≡ hitOf w u
+  one-answer none f none g = refl
+  one-answer none f (some y) g = let i = by-points 0 n v y (omega arith) (g .1 .0) in absurd (clash (p y) (g .0) (f y (i .0) (i .1)))
+  one-answer (some x) f none g = absurd (clash (p (x .at)) (f .yes) (g (x .at) (below (x .at) (f .yes))))
+  one-answer (some x) f (some y) g =
+      let s : x .at ≡ y =
+      same-place v (x .at) y (λ h. clash (p (x .at)) (f .yes) (g .1 .1 (x .at) (below (x .at) (f .yes)) h))
+      (λ h. clash (p y) (g .0) (f .rest y (by-points 0 n v y (omega arith) (g .1 .0) .0) h)) in
+      let t : x .run ≡ w y = f .run ∙ ap w s in
+      λ i. some (record { at = s i; run = t i })
 
--- an answer with its run, as Gives has it without
-abbrev Given : (ℕ → Run) → (ℕ → Bool) → (ℕ → ℕ → Type 0) → ℕ → Option Hit → Type 0
-Given w p beyond n none = Gives p beyond n none
-Given w p beyond n (some x) = Gives p beyond n (some (x .at)) × (x .run ≡ w (x .at))
-
--- there is one such answer, whichever way lies beyond
-one-answer : (w : ℕ → Run) (p : ℕ → Bool) (beyond : ℕ → ℕ → Type 0) (n : ℕ) → ((x y : ℕ) → (beyond x y → ⊥) → (beyond y x → ⊥) → x ≡ y)
-    → (o : Option Hit) → Given w p beyond n o → (u : Option ℕ) → Gives p beyond n u → o ≡ hitOf w u
-one-answer w p beyond n same none f none g = refl
-one-answer w p beyond n same none f (some y) g = absurd (clash (p y) (g .0) (f y (g .1 .0)))
-one-answer w p beyond n same (some x) f none g = absurd (clash (p (x .at)) (f .0 .0) (g (x .at) (f .0 .1 .0)))
-one-answer w p beyond n same (some x) f (some y) g =
-    let s : x .at ≡ y =
-    same (x .at) y (λ h. clash (p (x .at)) (f .0 .0) (g .1 .1 (x .at) (f .0 .1 .0) h)) (λ h. clash (p y) (g .0) (f .0 .1 .1 y (g .1 .0) h)) in
-    let t : x .run ≡ w y = f .1 ∙ ap w s in
-    λ i. some (record { at = s i; run = t i })
-
-module _ (w : ℕ → Run) (p : ℕ → Bool) (n : ℕ) where
-  abbrev Beyond : Way → ℕ → ℕ → Type 0
-  Beyond Up b a = b < a
-  Beyond Down b a = a < b
-
-  given : (v : Way) (o : Option Hit) → Finds v w p 0 n o → Given w p (Beyond v) n o
-  given v none f = λ b l. f b (omega arith) l
-  given Up (some x) f = ((f .yes, (f .high, λ b l m. f .rest b (omega arith) m)), f .run)
-  given Down (some x) f = ((f .yes, (f .high, λ b l m. f .rest b m l)), f .run)
-
-  pub finds-extreme : (v : Way) (o : Option Hit) → Finds v w p 0 n o → o ≡ hitOf w (extreme v p n)
-  finds-extreme Up o f = one-answer w p (Beyond Up) n same-place o (given Up o f) (lowest p n) (lowest-gives p n)
-  finds-extreme Down o f = one-answer w p (Beyond Down) n (λ x y i j. same-place x y j i) o (given Down o f) (highest p n) (highest-gives p n)
+  pub finds-extreme : (o : Option Hit) → Finds v w p (near v 0 n) (far v 0 n) o → o ≡ hitOf w (extreme v p n)
+  finds-extreme o f = one-answer o f (extreme v p n) (extreme-gives v)
+    where
+      extreme-gives : (v : Way) → Gives p (Nearer v) n (extreme v p n)
+      extreme-gives Up = lowest-gives p n
+      extreme-gives Down = highest-gives p n
 
 -- ---- only what p says below n counts
 

@@ -1,14 +1,11 @@
--- A walk over records and gaps finds the lowest eligible address, or the highest, and its run. What a record, a gap and a fit come to is
--- shown once for both ways. Assumes nothing.
+-- A walk over records and gaps finds the lowest eligible address, or the highest, and its run: one induction for both ways. Assumes nothing.
 use Prim.Native.Nat.{ℕ, suc, _≤_, _<_, min, max}
 use mathlib.Core.Path.{_≡_, refl, sym, ap, _∙_}
 use mathlib.Core.Bool.{Bool, true, false, cond}
 use mathlib.Core.List.{List, [], _∷_}
 use mathlib.Core.Option.{Option, none}
-use mathlib.Core.Logic.{_⊎_, inl, inr}
+use mathlib.Core.Logic.{_⊎_, inl, inr, ⊎-elim}
 use native.Mathlib.Omega.{arith}
-use lib.Dec.{ltb}
-use borrow.Author.Tests.{ltb-true, ltb-false}
 use Rattle.address.proofs.Tests.{le-or-lt, zero-not-one}
 use Rattle.regions.specs.declared.Tag.{Tag}
 use Rattle.regions.specs.declared.Region.{Region}
@@ -17,31 +14,31 @@ use Rattle.regions.specs.declared.State.the-variants.{Absent, Present}
 use Rattle.regions.specs.Meaning.{Meaning, end, at, top}
 use Rattle.regions.specs.Free.{usable, untaken, freeMemory, freeRuns}
 use Rattle.regions.specs.Runs.{runAt}
-use Rattle.regions.proofs.Rises.{Rises, ended, next, Canonical}
-use Rattle.regions.proofs.RoundTrip.{at-here, at-before, at-past, rises-end, rises-below, canonical-shortest}
+use Rattle.regions.proofs.Rises.{Canonical}
+use Rattle.regions.proofs.RoundTrip.{at-here, at-before, at-past, canonical-shortest}
 use Rattle.regions.proofs.Free.{pass-untaken, runs-at, free-memory}
-use Rattle.regions.proofs.Lying.{passes, Longest, run-is}
+use Rattle.regions.proofs.Lying.{passes, Longest, run-is, one-run-in}
 use Rattle.runs.specs.declared.Query.{Query}
-use Rattle.runs.specs.Eligible.{asks, eligible}
+use Rattle.runs.specs.Eligible.{asks, orElse, eligible}
 use Rattle.runs.specs.Places.{Hit}
-use Rattle.runs.specs.Steps.{serves, fitLow, fitHigh, lowestIn, highestIn}
-use Rattle.runs.proofs.Ways.{Way, Up, Down, fit, gaps, walk, falling}
-use Rattle.runs.proofs.Stretches.{NoneIn, Finds, join-up, join-down, finds-extreme}
-use Rattle.runs.proofs.Fits.{fit-finds, fit-none}
-use Rattle.runs.proofs.Eligible.{past-window, below-window, none-eligible, eligible-here, not-serving, does-serve}
-use Rattle.runs.proofs.Fall.{Shut, AllShut, canonical-shut, falling-shut, Falls, bottom, below, falls-above, falling-falls, falling-at}
+use Rattle.runs.specs.Steps.{serves, firstIn}
+use Rattle.runs.specs.declared.Way.{Way}
+use Rattle.runs.specs.declared.Way.the-variants.{Up, Down}
+use Rattle.runs.proofs.Ways.{near, far, front, back, sooner, later, precedes, Before, From, before-or-from, last, fit, gaps, walk, along}
+use Rattle.runs.proofs.Ways.{in-order, from-sooner, before-later, precedes-yes, precedes-no, front-back, near-near, far-far, between, within, by-points}
+use Rattle.runs.proofs.Stretches.{NoneIn, Finds, extend, join, finds-extreme}
+use Rattle.runs.proofs.Fits.{fit-finds}
+use Rattle.runs.proofs.Eligible.{past-window, none-eligible, eligible-lies, eligible-here, not-serving, does-serve}
+use Rattle.runs.proofs.Along.{Shut, AllShut, Along, done, step, at-outside, along-before, along-along, along-shut, along-at}
 
--- f has every tag that the runs xs have
-module _ (q : Query) (some-size : 0 < q .size .0) (some-align : 0 < q .align .0) (n : ℕ) (xs : List Region) (good : Canonical n xs) (f : Meaning)
+-- f has every tag that the runs xs have, and the walks end at z
+module _ (q : Query) (some-size : 0 < q .size .0) (some-align : 0 < q .align .0) (n z : ℕ) (xs : List Region) (good : Canonical n xs) (f : Meaning)
     (whole : (a : ℕ) (t : Tag) → at xs a ≡ Present t → f a ≡ Present t) where
   abbrev p : ℕ → Bool
   p = eligible q xs
 
   abbrev Gives : Way → ℕ → ℕ → Option Hit → Type 0
-  Gives v c d o = Finds v (runAt xs) p c d o
-
-  none-in : (c d : ℕ) → ((a : ℕ) → c ≤ a → a < d → passes (asks q) (at xs a) ≡ false) → NoneIn p c d
-  none-in = none-eligible q some-size good
+  Gives v a b o = Finds v (runAt xs) p a b o
 
   -- ---- a gap
 
@@ -49,73 +46,76 @@ module _ (q : Query) (some-size : 0 < q .size .0) (some-align : 0 < q .align .0)
   record Open (t : Tag) (ts : List Region) (lo hi : ℕ) : Type 0 where
     asked : asks q t ≡ true
     free : (a : ℕ) → lo ≤ a → a < hi → at xs a ≡ untaken (Present t) (at ts a)
-    stops : at xs hi ≡ Present t → ⊥
-    begins : (b : ℕ) → suc b ≡ lo → at xs b ≡ Present t → ⊥
+    stops : lo < hi → at xs hi ≡ Present t → ⊥
+    begins : lo < hi → (b : ℕ) → suc b ≡ lo → at xs b ≡ Present t → ⊥
+
+  abbrev OpenFrom : Way → Tag → List Region → ℕ → ℕ → Type 0
+  OpenFrom v t ts a b = Open t ts (near v a b) (far v a b)
 
   -- where ts says nothing at all, the fit is what a walk finds
-  clear-finds : (v : Way) (t : Tag) (ts : List Region) (lo hi : ℕ) → Open t ts lo hi → ((a : ℕ) → lo ≤ a → a < hi → at ts a ≡ Absent)
-      → Gives v lo hi (fit v q lo hi)
-  clear-finds v t ts lo hi o h =
-      let all : (a : ℕ) → lo ≤ a → a < hi → at xs a ≡ Present t = λ a l m. o .free a l m ∙ ap (untaken (Present t)) (h a l m) in
-      let run : Longest xs t lo hi = record { all = all; stops = o .stops; begins = o .begins } in
-      fit-finds q some-size some-align p lo hi (eligible-here q some-size good lo hi t (o .asked) all (o .stops)) (runAt xs)
-      (λ a l m. run-is t lo a hi good l m run) v
-
-  -- so too where nothing is left from lo to hi
-  part-finds : (v : Way) (t : Tag) (ts : List Region) (lo hi : ℕ) → (lo ≤ hi → Open t ts lo hi) → ((a : ℕ) → lo ≤ a → a < hi → at ts a ≡ Absent)
-      → (c d : ℕ) → (hi < lo → d ≤ c) → (lo ≤ hi → (c ≡ lo) × (d ≡ hi)) → Gives v c d (fit v q lo hi)
-  part-finds v t ts lo hi o h c d e f = go (le-or-lt lo hi)
-    where
-      go : (lo ≤ hi) ⊎ (hi < lo) → Gives v c d (fit v q lo hi)
-      go (inl l) = rw (f l .0, f l .1) (clear-finds v t ts lo hi (o l) h)
-      go (inr l) = let z = e l in rw (fit-none v q lo hi some-size some-align (omega arith)) (λ a i j. absurd (omega arith))
+  clear-finds : (v : Way) (t : Tag) (ts : List Region) (a b : ℕ) → OpenFrom v t ts a b → ((x : ℕ) → near v a b ≤ x → x < far v a b → at ts x ≡ Absent)
+      → Gives v a b (fit v q a b)
+  clear-finds v t ts a b o h =
+      let run : near v a b < far v a b → Longest xs t (near v a b) (far v a b) =
+      λ l. record { all = λ x i j. o .free x i j ∙ ap (untaken (Present t)) (h x i j); stops = o .stops l; begins = o .begins l } in
+      rw (near-near a b v, far-far a b v) at (fit-finds q some-size some-align p (near v a b) (far v a b)
+      (λ x i j. let l = run (omega arith) in eligible-here q some-size good (near v a b) (far v a b) t (o .asked) (l .all) (l .stops) x i j)
+      (runAt xs) (λ x i j. run-is t (near v a b) x (far v a b) good i j (run (omega arith))) v)
 
   -- a taken region leaves what is below it and what is above it
-  module _ (t : Tag) (r : Region) (us : List Region) (lo hi : ℕ) (o : Open t (r ∷ us) lo hi) (some : 0 < r .size .0) where
-    gone : (a : ℕ) → lo ≤ a → a < hi → r .base .0 ≤ a → a < end r → at xs a ≡ Absent
-    gone a i j x y = o .free a i j ∙ ap (untaken (Present t)) (at-here r us a x y)
+  module _ (t : Tag) (r : Region) (us : List Region) (some : 0 < r .size .0) where
+    module _ (lo hi : ℕ) (o : Open t (r ∷ us) lo hi) where
+      gone : (a : ℕ) → lo ≤ a → a < hi → r .base .0 ≤ a → a < end r → at xs a ≡ Absent
+      gone a i j x y = o .free a i j ∙ ap (untaken (Present t)) (at-here r us a x y)
 
-    not-there : (a : ℕ) → lo ≤ a → a < hi → r .base .0 ≤ a → a < end r → at xs a ≡ Present t → ⊥
-    not-there a i j x y e = let d = sym (gone a i j x y) ∙ e in absurd (zero-not-one cc)
+      not-there : (a : ℕ) → lo ≤ a → a < hi → r .base .0 ≤ a → a < end r → at xs a ≡ Present t → ⊥
+      not-there a i j x y e = let d = sym (gone a i j x y) ∙ e in absurd (zero-not-one cc)
 
-    under : lo ≤ min hi (r .base .0) → Open t us lo (min hi (r .base .0))
-    under l =
-        record {
-          asked = o .asked;
-          free = λ a i j. o .free a i (omega arith) ∙ ap (untaken (Present t)) (at-before r us a (omega arith));
-          stops = stops (le-or-lt hi (r .base .0));
-          begins = o .begins;
-        }
-      where
-        stops : (hi ≤ r .base .0) ⊎ (r .base .0 < hi) → at xs (min hi (r .base .0)) ≡ Present t → ⊥
-        stops (inl i) e = let m : min hi (r .base .0) ≡ hi = omega arith in o .stops (rw m at e)
-        stops (inr i) e =
-            let m : min hi (r .base .0) ≡ r .base .0 = omega arith in
-            not-there (r .base .0) (omega arith) i (omega arith) (omega arith) (rw m at e)
+      under : Open t us lo (min hi (r .base .0))
+      under =
+          record {
+            asked = o .asked;
+            free = λ a i j. o .free a i (omega arith) ∙ ap (untaken (Present t)) (at-before r us a (omega arith));
+            stops = stops (le-or-lt hi (r .base .0));
+            begins = λ l. o .begins (omega arith);
+          }
+        where
+          stops : (hi ≤ r .base .0) ⊎ (r .base .0 < hi) → lo < min hi (r .base .0) → at xs (min hi (r .base .0)) ≡ Present t → ⊥
+          stops (inl i) l e = let m : min hi (r .base .0) ≡ hi = omega arith in o .stops (omega arith) (rw m at e)
+          stops (inr i) l e =
+              let m : min hi (r .base .0) ≡ r .base .0 = omega arith in
+              not-there (r .base .0) (omega arith) i (omega arith) (omega arith) (rw m at e)
 
-    over : max lo (end r) ≤ hi → Open t us (max lo (end r)) hi
-    over l =
-        record {
-          asked = o .asked;
-          free = λ a i j. o .free a (omega arith) j ∙ ap (untaken (Present t)) (at-past r us a (omega arith));
-          stops = o .stops;
-          begins = λ b y. begins b y (le-or-lt (end r) lo);
-        }
-      where
-        begins : (b : ℕ) → suc b ≡ max lo (end r) → (end r ≤ lo) ⊎ (lo < end r) → at xs b ≡ Present t → ⊥
-        begins b y (inl i) = o .begins b (omega arith)
-        begins b y (inr i) = not-there b (omega arith) (omega arith) (omega arith) (omega arith)
+      over : Open t us (max lo (end r)) hi
+      over =
+          record {
+            asked = o .asked;
+            free = λ a i j. o .free a (omega arith) j ∙ ap (untaken (Present t)) (at-past r us a (omega arith));
+            stops = λ l. o .stops (omega arith);
+            begins = λ l b y. begins l b y (le-or-lt (end r) lo);
+          }
+        where
+          begins : max lo (end r) < hi → (b : ℕ) → suc b ≡ max lo (end r) → (end r ≤ lo) ⊎ (lo < end r) → at xs b ≡ Present t → ⊥
+          begins l b y (inl i) = o .begins (omega arith) b (omega arith)
+          begins l b y (inr i) = not-there b (omega arith) (omega arith) (omega arith) (omega arith)
+
+    -- what a walk comes to first, where us says nothing, and what it comes to behind the region
+    ahead-finds : (v : Way) (a b : ℕ) → OpenFrom v t (r ∷ us) a b → ((x : ℕ) → Before v (front v r) x → at us x ≡ Absent)
+        → Gives v a (sooner v b (front v r)) (fit v q a (sooner v b (front v r)))
+    ahead-finds Up a b o h = clear-finds Up t us a (min b (r .base .0)) (under a b o) (λ x i j. h x (omega arith))
+    ahead-finds Down a b o h = clear-finds Down t us a (max b (end r)) (over b a o) (λ x i j. h x (omega arith))
+
+    open-behind : (v : Way) (a b : ℕ) → OpenFrom v t (r ∷ us) a b → OpenFrom v t us (later v a (back v r)) b
+    open-behind Up a b o = over a b o
+    open-behind Down a b o = under b a o
 
     -- nothing in between
-    between : NoneIn p (max lo (min hi (r .base .0))) (min hi (max lo (end r)))
-    between = none-in _ _ (λ a i j. ap (passes (asks q)) (gone a (omega arith) (omega arith) (omega arith) (omega arith)))
-
-    -- and where us says nothing there, the fits are what a walk finds
-    under-finds : (v : Way) → ((a : ℕ) → a < r .base .0 → at us a ≡ Absent) → Gives v lo (max lo (min hi (r .base .0))) (fit v q lo (min hi (r .base .0)))
-    under-finds v h = part-finds v t us lo (min hi (r .base .0)) under (λ a i j. h a (omega arith)) lo (max lo (min hi (r .base .0))) (λ i. omega arith) (λ i. (refl, omega arith))
-
-    over-finds : (v : Way) → ((a : ℕ) → end r ≤ a → at us a ≡ Absent) → Gives v (min hi (max lo (end r))) hi (fit v q (max lo (end r)) hi)
-    over-finds v h = part-finds v t us (max lo (end r)) hi over (λ a i j. h a (omega arith)) (min hi (max lo (end r))) hi (λ i. omega arith) (λ i. (omega arith, refl))
+    none-taken : (v : Way) (a b x : ℕ) → OpenFrom v t (r ∷ us) a b → From v a x → From v (sooner v b (front v r)) x → Before v b x → Before v (back v r) x
+        → p x ≡ false
+    none-taken v a b x o i j k l =
+        let m = between a b v x i k in
+        let u = within (r .base .0) (end r) v x (from-sooner b (front v r) x v j k) l in
+        none-eligible q some-size good x (ap (passes (asks q)) (gone (near v a b) (far v a b) o x (m .0) (m .1) (u .0) (u .1)))
 
   -- ---- a record
 
@@ -127,131 +127,79 @@ module _ (q : Query) (some-size : 0 < q .size .0) (some-align : 0 < q .align .0)
         record {
           asked = s .1;
           free = λ a i j. here a i j ∙ ap (λ (x : State). untaken x (at ts a)) (s .0);
-          stops = λ x. shut .stops (whole (end r) (r .tag) x);
-          begins = λ b y x. shut .begins b y (whole b (r .tag) x);
+          stops = λ l x. shut .stops (whole (end r) (r .tag) x);
+          begins = λ l b y x. shut .begins b y (whole b (r .tag) x);
         }
 
-    passed-record : serves (asks q) r ≡ false → NoneIn p (r .base .0) (end r)
-    passed-record e =
-        none-in _ _ (λ a i j. ap (passes (asks q)) (here a i j) ∙ pass-untaken (asks q) (usable (Present (r .tag))) (at ts a) (not-serving (asks q) r e))
+    passed-record : (v : Way) → serves (asks q) r ≡ false → NoneIn v p (front v r) (back v r)
+    passed-record v e x i j =
+        let m = within (r .base .0) (end r) v x i j in
+        none-eligible q some-size good x
+        (ap (passes (asks q)) (here x (m .0) (m .1)) ∙ pass-untaken (asks q) (usable (Present (r .tag))) (at ts x) (not-serving (asks q) r e))
 
   -- where there is no record there is nothing
-  unrecorded : (c d : ℕ) (rs ts : List Region) → ((a : ℕ) → c ≤ a → a < d → at xs a ≡ untaken (usable (at rs a)) (at ts a))
-      → ((a : ℕ) → c ≤ a → a < d → at rs a ≡ Absent) → NoneIn p c d
-  unrecorded c d rs ts h e =
-      none-in c d (λ a i j. ap (passes (asks q)) (h a i j ∙ ap (λ (x : State). untaken (usable x) (at ts a)) (e a i j)) ∙ pass-untaken (asks q) Absent (at ts a) refl)
+  unrecorded : (a : ℕ) (rs ts : List Region) → at xs a ≡ freeMemory (at rs) (at ts) a → at rs a ≡ Absent → p a ≡ false
+  unfolding freeMemory
+  unrecorded a rs ts h e =
+      none-eligible q some-size good a (ap (passes (asks q)) (h ∙ ap (λ (x : State). untaken (usable x) (at ts a)) e) ∙ pass-untaken (asks q) Absent (at ts a) refl)
 
-  -- ---- upwards
+  -- ---- the walk
 
-  -- what comes from hi on is found by k, whatever taken regions are left
-  abbrev Onward : (List Region → Option Hit) → List Region → ℕ → Type 0
-  Onward k rs hi = (ts : List Region) (c : ℕ) (s : State) → Rises c s n ts → ((a : ℕ) → hi ≤ a → at xs a ≡ freeMemory (at rs) (at ts) a) → Gives Up hi n (k ts)
+  -- what comes from b on is found by k, whatever taken regions are left
+  abbrev Onward : Way → (List Region → Option Hit) → List Region → ℕ → Type 0
+  Onward v k rs b = (ts : List Region) (c : ℕ) → Along v c ts → ((x : ℕ) → From v b x → at xs x ≡ freeMemory (at rs) (at ts) x) → Gives v b z (k ts)
 
-  gaps-up : (k : List Region → Option Hit) (rs : List Region) (t : Tag) (lo hi : ℕ) {c : ℕ} {s : State} {ts : List Region}
-      → Onward k rs hi → lo ≤ hi → hi ≤ n → Rises c s n ts → Open t ts lo hi → ((a : ℕ) → hi ≤ a → at xs a ≡ freeMemory (at rs) (at ts) a)
-      → Gives Up lo n (gaps Up q k lo hi ts)
+  gaps-finds : (v : Way) (k : List Region → Option Hit) (rs : List Region) (t : Tag) (a b : ℕ) {c : ℕ} {ts : List Region}
+      → Onward v k rs b → Along v c ts → OpenFrom v t ts a b → ((x : ℕ) → From v b x → at xs x ≡ freeMemory (at rs) (at ts) x) → Gives v a z (gaps v q k a b ts)
   unfolding gaps at freeMemory
-  gaps-up k rs t lo hi {c} {s} g l m (ended d) o j =
-      join-up (runAt xs) p lo hi n (fitLow q lo hi) (k []) l m (clear-finds Up t [] lo hi o (λ a x y. refl)) (g [] c s (ended d) j)
-  gaps-up k rs t lo hi {c} {s} g l m (next {r = r} {rs = us} d w) o j =
-      let u = cond (ltb (min hi (q .end .0)) (end r)) (k (r ∷ us)) (gaps Up q k (max lo (end r)) hi us) in
-      join-up (runAt xs) p lo (max lo (min hi (r .base .0))) n (fitLow q lo (min hi (r .base .0))) u (omega arith) (omega arith)
-      (under-finds t r us lo hi o (d .some) Up (λ a i. rises-below a w (omega arith)))
-      (join-up (runAt xs) p (max lo (min hi (r .base .0))) (min hi (max lo (end r))) n none u (omega (arith, d .some)) (omega arith) (between t r us lo hi o (d .some))
-      (go (λ e i. gaps-up k rs t (max lo (end r)) hi g e m w i (behind (omega arith))) (ltb (min hi (q .end .0)) (end r)) refl))
+  gaps-finds v k rs t a b {c} g done o j =
+      join v (runAt xs) p a b z (fit v q a b) (k []) (clear-finds v t [] a b o (λ x i j. refl)) (g [] c done j)
+  gaps-finds v k rs t a b {c} g (step {r = r} {rs = us} l s w) o j =
+      go (gaps-finds v k rs t (later v a (back v r)) b g w (open-behind t r us s v a b o)) (fit v q a (sooner v b (front v r)))
+      (ahead-finds t r us s v a b o (λ x i. along-before v x w (in-order v _ _ _ i (front-back v r)))) (precedes v (sooner v b (last v q)) (back v r)) refl
     where
-      behind : end r ≤ hi → (a : ℕ) → hi ≤ a → at xs a ≡ freeMemory (at rs) (at us) a
-      behind e a u = j a u ∙ ap (untaken (usable (at rs a))) (at-past r us a (omega arith))
+      go : (((x : ℕ) → From v b x → at xs x ≡ freeMemory (at rs) (at us) x) → Gives v (later v a (back v r)) z (gaps v q k (later v a (back v r)) b us))
+          → (f : Option Hit) → Gives v a (sooner v b (front v r)) f → (y : Bool) → precedes v (sooner v b (last v q)) (back v r) ≡ y
+          → Gives v a z (orElse f (cond y (k (r ∷ us)) (gaps v q k (later v a (back v r)) b us)))
+      go ih f h true y =
+          let d = precedes-yes v (sooner v b (last v q)) (back v r) y in
+          join v (runAt xs) p a b z f (k (r ∷ us))
+          (extend v (runAt xs) p a (sooner v b (front v r)) b f
+          (λ x i m u. ⊎-elim (none-taken t r us s v a b x o i m u) (λ n. past-window v q xs x some-size (from-sooner b (last v q) x v (in-order v _ _ _ d n) u))
+          (before-or-from v (back v r) x)) h)
+          (g (r ∷ us) c (step l s w) j)
+      go ih f h false y =
+          let d = precedes-no b (last v q) (back v r) v y in
+          join v (runAt xs) p a (later v a (back v r)) z f (gaps v q k (later v a (back v r)) b us)
+          (extend v (runAt xs) p a (sooner v b (front v r)) (later v a (back v r)) f
+          (λ x i m u. let n = before-later a (back v r) x v u i in none-taken t r us s v a b x o i m (in-order v _ _ _ n d) n) h)
+          (ih (λ x i. j x i ∙ ap (untaken (usable (at rs x))) (at-outside v r us x (inr (in-order v _ _ _ d i)))))
 
-      go : (max lo (end r) ≤ hi → Open t us (max lo (end r)) hi → Gives Up (max lo (end r)) n (gaps Up q k (max lo (end r)) hi us))
-          → (b : Bool) → ltb (min hi (q .end .0)) (end r) ≡ b → Gives Up (min hi (max lo (end r))) n (cond b (k (r ∷ us)) (gaps Up q k (max lo (end r)) hi us))
-      go ih true e =
-          let i = ltb-true (min hi (q .end .0)) (end r) e in
-          join-up (runAt xs) p (min hi (max lo (end r))) hi n none (k (r ∷ us)) (omega arith) m
-          (λ a u v. past-window q xs some-size a (suc a) (omega arith) a (omega arith) (omega arith)) (g (r ∷ us) c s (next d w) j)
-      go ih false e =
-          let i = ltb-false (min hi (q .end .0)) (end r) e in
-          let z : min hi (max lo (end r)) ≡ max lo (end r) = omega arith in
-          rw z (ih (omega arith) (over t r us lo hi o (d .some) (omega arith)))
-
-  walk-up : {c : ℕ} {s : State} {rs : List Region} {c′ : ℕ} {s′ : State} {ts : List Region} → Rises c s n rs → AllShut f rs → Rises c′ s′ n ts
-      → ((a : ℕ) → c ≤ a → at xs a ≡ freeMemory (at rs) (at ts) a) → Gives Up c n (walk Up q rs ts)
+  walk-finds : (v : Way) {c c′ : ℕ} {rs ts : List Region} → Along v c rs → AllShut f rs → Along v c′ ts
+      → ((x : ℕ) → From v c x → at xs x ≡ freeMemory (at rs) (at ts) x) → Gives v c z (walk v q rs ts)
   unfolding walk at freeMemory
-  walk-up {c} {ts = ts} (ended l) sh u h = unrecorded c n [] ts (λ a i j. h a i) (λ a i j. refl)
-  walk-up {c} {ts = ts} (next {r = r} {rs = rs} k w) sh u h =
-      join-up (runAt xs) p c (r .base .0) n none (cond (serves (asks q) r) (gaps Up q (walk Up q rs) (r .base .0) (end r) ts) (walk Up q rs ts)) (k .low) (omega (arith, rises-end w))
-      (unrecorded c (r .base .0) (r ∷ rs) ts (λ a i j. h a i) (λ a i j. at-before r rs a j ∙ rises-below a w (omega arith)))
-      (go (λ us d s z g. walk-up {ts = us} w (sh .1) z g) (λ g. walk-up {ts = ts} w (sh .1) u g) (serves (asks q) r) refl)
+  walk-finds v {ts = ts} done sh u h = λ x i j. unrecorded x [] ts (h x i) refl
+  walk-finds v {c} {ts = ts} (step {r = r} {rs = rs} l s w) sh u h =
+      join v (runAt xs) p c (front v r) z none (cond (serves (asks q) r) (gaps v q (walk v q rs) (front v r) (back v r) ts) (walk v q rs ts))
+      (λ x i j. unrecorded x (r ∷ rs) ts (h x i) (at-outside v r rs x (inl j) ∙ along-before v x w (in-order v _ _ _ j (front-back v r))))
+      (go (λ us d y g. walk-finds v {ts = us} w (sh .1) y g) (λ g. walk-finds v {ts = ts} w (sh .1) u g) (serves (asks q) r) refl)
     where
-      here : (a : ℕ) → r .base .0 ≤ a → a < end r → at xs a ≡ untaken (usable (Present (r .tag))) (at ts a)
-      here a i j = h a (omega (arith, k .low)) ∙ ap (λ (x : State). untaken (usable x) (at ts a)) (at-here r rs a i j)
+      here : (x : ℕ) → r .base .0 ≤ x → x < end r → at xs x ≡ untaken (usable (Present (r .tag))) (at ts x)
+      here x i j = h x (in-order v _ _ _ l (by-points (r .base .0) (end r) v x i j .0)) ∙ ap (λ (y : State). untaken (usable y) (at ts x)) (at-here r rs x i j)
 
-      behind : (a : ℕ) → end r ≤ a → at xs a ≡ untaken (usable (at rs a)) (at ts a)
-      behind a i = h a (omega (arith, k .low)) ∙ ap (λ (x : State). untaken (usable x) (at ts a)) (at-past r rs a i)
+      behind : (x : ℕ) → From v (back v r) x → at xs x ≡ untaken (usable (at rs x)) (at ts x)
+      behind x i = h x (in-order v _ _ _ l (in-order v _ _ _ (front-back v r) i)) ∙ ap (λ (y : State). untaken (usable y) (at ts x)) (at-outside v r rs x (inr i))
 
-      go : Onward (walk Up q rs) rs (end r)
-          → (((a : ℕ) → end r ≤ a → at xs a ≡ untaken (usable (at rs a)) (at ts a)) → Gives Up (end r) n (walk Up q rs ts))
-          → (b : Bool) → serves (asks q) r ≡ b → Gives Up (r .base .0) n (cond b (gaps Up q (walk Up q rs) (r .base .0) (end r) ts) (walk Up q rs ts))
-      go g ih true e = gaps-up (walk Up q rs) rs (r .tag) (r .base .0) (end r) g (omega arith) (rises-end w) u (open-record r (sh .0) ts here e) behind
-      go g ih false e = join-up (runAt xs) p (r .base .0) (end r) n none (walk Up q rs ts) (omega arith) (rises-end w) (passed-record r (sh .0) ts here e) (ih behind)
+      go : Onward v (walk v q rs) rs (back v r)
+          → (((x : ℕ) → From v (back v r) x → at xs x ≡ untaken (usable (at rs x)) (at ts x)) → Gives v (back v r) z (walk v q rs ts))
+          → (b : Bool) → serves (asks q) r ≡ b → Gives v (front v r) z (cond b (gaps v q (walk v q rs) (front v r) (back v r) ts) (walk v q rs ts))
+      go g ih true e =
+          let o = open-record r (sh .0) ts here e in
+          gaps-finds v (walk v q rs) rs (r .tag) (front v r) (back v r) g u (rw (near-near (r .base .0) (end r) v, far-far (r .base .0) (end r) v) o) behind
+      go g ih false e = join v (runAt xs) p (front v r) (back v r) z none (walk v q rs ts) (passed-record r (sh .0) ts here v e) (ih behind)
 
-  -- ---- downwards
-
-  -- what lies below lo is found by k, whatever taken regions are left
-  abbrev Downward : (List Region → Option Hit) → List Region → ℕ → Type 0
-  Downward k rs lo = (ts : List Region) (d : ℕ) → Falls d ts → ((a : ℕ) → a < lo → at xs a ≡ freeMemory (at rs) (at ts) a) → Gives Down 0 lo (k ts)
-
-  gaps-down : (k : List Region → Option Hit) (rs : List Region) (t : Tag) (lo hi : ℕ) {d : ℕ} {ts : List Region}
-      → Downward k rs lo → lo ≤ hi → Falls d ts → Open t ts lo hi → ((a : ℕ) → a < lo → at xs a ≡ freeMemory (at rs) (at ts) a)
-      → Gives Down 0 hi (gaps Down q k lo hi ts)
-  unfolding gaps at freeMemory
-  gaps-down k rs t lo hi {d} g l bottom o j =
-      join-down (runAt xs) p 0 lo hi (fitHigh q lo hi) (k []) (omega arith) l (clear-finds Down t [] lo hi o (λ a x y. refl)) (g [] d bottom j)
-  gaps-down k rs t lo hi {d} g l (below {r = r} {rs = us} m z w) o j =
-      let u = cond (ltb (r .base .0) (max lo (q .start .0))) (k (r ∷ us)) (gaps Down q k lo (min hi (r .base .0)) us) in
-      join-down (runAt xs) p 0 (min hi (max lo (end r))) hi (fitHigh q (max lo (end r)) hi) u (omega arith) (omega arith)
-      (over-finds t r us lo hi o z Down (λ a i. falls-above a w (omega arith)))
-      (join-down (runAt xs) p 0 (max lo (min hi (r .base .0))) (min hi (max lo (end r))) none u (omega arith) (omega arith) (between t r us lo hi o z)
-      (go (λ e i. gaps-down k rs t lo (min hi (r .base .0)) g e w i (beneath (omega arith))) (ltb (r .base .0) (max lo (q .start .0))) refl))
-    where
-      beneath : lo ≤ r .base .0 → (a : ℕ) → a < lo → at xs a ≡ freeMemory (at rs) (at us) a
-      beneath e a u = j a u ∙ ap (untaken (usable (at rs a))) (at-before r us a (omega arith))
-
-      go : (lo ≤ min hi (r .base .0) → Open t us lo (min hi (r .base .0)) → Gives Down 0 (min hi (r .base .0)) (gaps Down q k lo (min hi (r .base .0)) us))
-          → (b : Bool) → ltb (r .base .0) (max lo (q .start .0)) ≡ b
-          → Gives Down 0 (max lo (min hi (r .base .0))) (cond b (k (r ∷ us)) (gaps Down q k lo (min hi (r .base .0)) us))
-      go ih true e =
-          let i = ltb-true (r .base .0) (max lo (q .start .0)) e in
-          join-down (runAt xs) p 0 lo (max lo (min hi (r .base .0))) none (k (r ∷ us)) (omega arith) (omega arith)
-          (λ a u v. below-window q xs a (suc a) (omega arith) a (omega arith) (omega arith)) (g (r ∷ us) d (below m z w) j)
-      go ih false e =
-          let i = ltb-false (r .base .0) (max lo (q .start .0)) e in
-          let y : max lo (min hi (r .base .0)) ≡ min hi (r .base .0) = omega arith in
-          rw y (ih (omega arith) (under t r us lo hi o z (omega arith)))
-
-  walk-down : {d d′ : ℕ} {rs ts : List Region} → Falls d rs → AllShut f rs → Falls d′ ts
-      → ((a : ℕ) → a < d → at xs a ≡ freeMemory (at rs) (at ts) a) → Gives Down 0 d (walk Down q rs ts)
-  unfolding walk at freeMemory
-  walk-down {d} {ts = ts} bottom sh u h = unrecorded 0 d [] ts (λ a i j. h a j) (λ a i j. refl)
-  walk-down {d} {ts = ts} (below {r = r} {rs = rs} m z w) sh u h =
-      join-down (runAt xs) p 0 (end r) d none (cond (serves (asks q) r) (gaps Down q (walk Down q rs) (r .base .0) (end r) ts) (walk Down q rs ts)) (omega arith) m
-      (unrecorded (end r) d (r ∷ rs) ts (λ a i j. h a j) (λ a i j. at-past r rs a i ∙ falls-above a w (omega arith)))
-      (go (λ us b v g. walk-down {ts = us} w (sh .1) v g) (λ g. walk-down {ts = ts} w (sh .1) u g) (serves (asks q) r) refl)
-    where
-      here : (a : ℕ) → r .base .0 ≤ a → a < end r → at xs a ≡ untaken (usable (Present (r .tag))) (at ts a)
-      here a i j = h a (omega arith) ∙ ap (λ (x : State). untaken (usable x) (at ts a)) (at-here r rs a i j)
-
-      beneath : (a : ℕ) → a < r .base .0 → at xs a ≡ untaken (usable (at rs a)) (at ts a)
-      beneath a i = h a (omega arith) ∙ ap (λ (x : State). untaken (usable x) (at ts a)) (at-before r rs a i)
-
-      go : Downward (walk Down q rs) rs (r .base .0)
-          → (((a : ℕ) → a < r .base .0 → at xs a ≡ untaken (usable (at rs a)) (at ts a)) → Gives Down 0 (r .base .0) (walk Down q rs ts))
-          → (b : Bool) → serves (asks q) r ≡ b → Gives Down 0 (end r) (cond b (gaps Down q (walk Down q rs) (r .base .0) (end r) ts) (walk Down q rs ts))
-      go g ih true e = gaps-down (walk Down q rs) rs (r .tag) (r .base .0) (end r) g (omega arith) u (open-record r (sh .0) ts here e) beneath
-      go g ih false e = join-down (runAt xs) p 0 (r .base .0) (end r) none (walk Down q rs ts) (omega arith) (omega arith) (passed-record r (sh .0) ts here e) (ih beneath)
-
--- so the walks give the lowest and the highest eligible address of two tables
-module _ (q : Query) (ms ts : List Region) (s : 0 < q .size .0) (l : 0 < q .align .0) (w : Canonical top ms) (u : Canonical top ts) where
+-- so a walk gives the first eligible address of two tables
+module _ (v : Way) (q : Query) (ms ts : List Region) (s : 0 < q .size .0) (l : 0 < q .align .0) (w : Canonical top ms) (u : Canonical top ts) where
   abbrev xs : List Region
   xs = freeRuns ms ts
 
@@ -259,17 +207,16 @@ module _ (q : Query) (ms ts : List Region) (s : 0 < q .size .0) (l : 0 < q .alig
   unfolding freeRuns
   runs = canonical-shortest (freeMemory (at ms) (at ts)) top
 
-  pub walk-lowest : walk Up q ms ts ≡ lowestIn ms ts q
-  unfolding lowestIn
-  walk-lowest =
-      finds-extreme (runAt xs) (eligible q xs) top Up (walk Up q ms ts)
-      (walk-up q s l top xs runs (at ms) (free-memory ms ts w) w (canonical-shut top ms w) u (λ a i. runs-at ms ts w a))
+  below : (a : ℕ) → eligible q xs a ≡ true → a < top
+  unfolding freeRuns
+  below a e = omega (arith, one-run-in (freeMemory (at ms) (at ts)) (asks q) (q .size .0) a s (eligible-lies q xs a e .run) .0)
 
-  pub walk-highest : walk Down q (falling ms) (falling ts) ≡ highestIn ms ts q
-  unfolding highestIn freeMemory
-  walk-highest =
-      finds-extreme (runAt xs) (eligible q xs) top Down (walk Down q (falling ms) (falling ts))
-      (walk-down q s l top xs runs (at ms) (free-memory ms ts w) (falling-falls top ms w) (falling-shut (at ms) ms (canonical-shut top ms w)) (falling-falls top ts u) here)
-    where
-      here : (a : ℕ) → a < top → at xs a ≡ freeMemory (at (falling ms)) (at (falling ts)) a
-      here a i = rw (falling-at top ms a w, falling-at top ts a u) (runs-at ms ts w a)
+  here : (a : ℕ) → at xs a ≡ freeMemory (at (along v ms)) (at (along v ts)) a
+  unfolding freeMemory
+  here a = rw (along-at v top ms a w, along-at v top ts a u) (runs-at ms ts w a)
+
+  pub walk-first : walk v q (along v ms) (along v ts) ≡ firstIn v ms ts q
+  unfolding firstIn
+  walk-first =
+      finds-extreme v (runAt xs) (eligible q xs) top below (walk v q (along v ms) (along v ts))
+      (walk-finds q s l top (far v 0 top) xs runs (at ms) (free-memory ms ts w) v (along-along v top ms w) (along-shut v top ms w) (along-along v top ts u) (λ a i. here a))

@@ -24,7 +24,8 @@ use Rattle.records.specs.Steps.{endingBy}
 use Rattle.runs.specs.declared.Query.{Query}
 use Rattle.runs.specs.Eligible.{asks, eligible, lowest, Gives}
 use Rattle.runs.specs.Places.{hitOf}
-use Rattle.runs.specs.Steps.{lowestIn}
+use Rattle.runs.specs.declared.Way.the-variants.{Up}
+use Rattle.runs.specs.Steps.{firstIn}
 use Rattle.runs.proofs.Extremes.{lowest-gives}
 use Rattle.runs.proofs.Stretches.{lowest-agree}
 use Rattle.runs.proofs.Eligible.{eligible-lies, lies-eligible}
@@ -81,8 +82,8 @@ module _ (q : Query) (pos : 0 < q .size .0) (ms ts ms′ ts′ : List Region) (w
         low′ = low′;
       }
 
-  lowest-same : lowestIn ms ts q ≡ lowestIn ms′ ts′ q
-  unfolding lowestIn freeRuns
+  lowest-same : firstIn Up ms ts q ≡ firstIn Up ms′ ts′ q
+  unfolding firstIn freeRuns
   lowest-same =
       let x = canonical-shortest (freeMemory (at ms) (at ts)) top in
       let y = canonical-shortest (freeMemory (at ms′) (at ts′)) top in
@@ -91,7 +92,7 @@ module _ (q : Query) (pos : 0 < q .size .0) (ms ts ms′ ts′ : List Region) (w
 
 module _ (q : Query) (pos : 0 < q .size .0) where
   -- of the memory table
-  memory-first : (r : Region) (ms ts : List Region) → Canonical top (r ∷ ms) → end r ≤ q .start .0 → lowestIn (r ∷ ms) ts q ≡ lowestIn ms ts q
+  memory-first : (r : Region) (ms ts : List Region) → Canonical top (r ∷ ms) → end r ≤ q .start .0 → firstIn Up (r ∷ ms) ts q ≡ firstIn Up ms ts q
   memory-first r ms ts (next k w) l =
       lowest-same q pos (r ∷ ms) ts ms ts (next k w) m (end r) l (λ a i. at-past r ms a i) (λ a i. refl) low low′
     where
@@ -111,7 +112,7 @@ module _ (q : Query) (pos : 0 < q .size .0) where
 
   -- and of the taken table, where the next ends there too: that one shuts the run that the window begins in
   taken-first : (ms : List Region) (r s : Region) (ts : List Region) → Canonical top ms → Canonical top (r ∷ s ∷ ts) → end s ≤ q .start .0
-      → lowestIn ms (r ∷ s ∷ ts) q ≡ lowestIn ms (s ∷ ts) q
+      → firstIn Up ms (r ∷ s ∷ ts) q ≡ firstIn Up ms (s ∷ ts) q
   unfolding freeMemory
   taken-first ms r s ts w (next k (next k′ v)) l =
       lowest-same q pos ms (r ∷ s ∷ ts) ms (s ∷ ts) w w (end s) l (λ a i. refl) (λ a i. at-past r (s ∷ ts) a (omega (arith, k′ .low)))
@@ -124,29 +125,29 @@ module _ (q : Query) (pos : 0 < q .size .0) where
 
   -- ---- the walk may begin behind all of them
 
-  pub from-memory : (ms ts : List Region) → Canonical top ms → lowestIn (drop (endingBy (q .start .0) ms) ms) ts q ≡ lowestIn ms ts q
+  pub from-memory : (ms ts : List Region) → Canonical top ms → firstIn Up (drop (endingBy (q .start .0) ms) ms) ts q ≡ firstIn Up ms ts q
   unfolding endingBy
   from-memory [] ts w = refl
   from-memory (r ∷ ms) ts w = go (leb (end r) (q .start .0)) refl (from-memory ms ts (tail w))
     where
-      go : (b : Bool) → leb (end r) (q .start .0) ≡ b → lowestIn (drop (endingBy (q .start .0) ms) ms) ts q ≡ lowestIn ms ts q
-          → lowestIn (drop (cond b (suc (endingBy (q .start .0) ms)) 0) (r ∷ ms)) ts q ≡ lowestIn (r ∷ ms) ts q
+      go : (b : Bool) → leb (end r) (q .start .0) ≡ b → firstIn Up (drop (endingBy (q .start .0) ms) ms) ts q ≡ firstIn Up ms ts q
+          → firstIn Up (drop (cond b (suc (endingBy (q .start .0) ms)) 0) (r ∷ ms)) ts q ≡ firstIn Up (r ∷ ms) ts q
       go true e ih = ih ∙ sym (memory-first r ms ts w (leb-true (end r) (q .start .0) e))
       go false e ih = refl
 
-  pub from-taken : (ms ts : List Region) → Canonical top ms → Canonical top ts → lowestIn ms (drop (endingBy (q .start .0) ts - 1) ts) q ≡ lowestIn ms ts q
+  pub from-taken : (ms ts : List Region) → Canonical top ms → Canonical top ts → firstIn Up ms (drop (endingBy (q .start .0) ts - 1) ts) q ≡ firstIn Up ms ts q
   unfolding endingBy
   from-taken ms [] w u = refl
   from-taken ms (r ∷ []) w u = go (leb (end r) (q .start .0))
     where
-      go : (b : Bool) → lowestIn ms (drop (cond b 1 0 - 1) (r ∷ [])) q ≡ lowestIn ms (r ∷ []) q
+      go : (b : Bool) → firstIn Up ms (drop (cond b 1 0 - 1) (r ∷ [])) q ≡ firstIn Up ms (r ∷ []) q
       go true = refl
       go false = refl
   from-taken ms (r ∷ s ∷ ts) w u = go (leb (end r) (q .start .0)) (leb (end s) (q .start .0)) refl (from-taken ms (s ∷ ts) w (tail u))
     where
       go : (b c : Bool) → leb (end s) (q .start .0) ≡ c
-          → lowestIn ms (drop (cond c (suc (endingBy (q .start .0) ts)) 0 - 1) (s ∷ ts)) q ≡ lowestIn ms (s ∷ ts) q
-          → lowestIn ms (drop (cond b (suc (cond c (suc (endingBy (q .start .0) ts)) 0)) 0 - 1) (r ∷ s ∷ ts)) q ≡ lowestIn ms (r ∷ s ∷ ts) q
+          → firstIn Up ms (drop (cond c (suc (endingBy (q .start .0) ts)) 0 - 1) (s ∷ ts)) q ≡ firstIn Up ms (s ∷ ts) q
+          → firstIn Up ms (drop (cond b (suc (cond c (suc (endingBy (q .start .0) ts)) 0)) 0 - 1) (r ∷ s ∷ ts)) q ≡ firstIn Up ms (r ∷ s ∷ ts) q
       go true true e ih =
           let n = endingBy (q .start .0) ts in
           let x : suc (suc n) - 1 ≡ suc n = omega arith in

@@ -19,6 +19,8 @@ use Rattle.regions.specs.Free.{freeRuns}
 use Rattle.regions.specs.Runs.{runOf, runAt}
 use Rattle.regions.specs.Bytes.{readRegion, readRegions}
 use Rattle.runs.specs.declared.Query.{Query}
+use Rattle.runs.specs.declared.Way.{Way}
+use Rattle.runs.specs.declared.Way.the-variants.{Up, Down}
 use Rattle.runs.specs.declared.walk.Bounds.{Bounds}
 use Rattle.runs.specs.Eligible.{lowest, highest, eligible}
 use Rattle.runs.specs.Places.{Hit, hitOf}
@@ -65,12 +67,14 @@ boundsHigh l j = cond (eqb j 0) (record { base = record { 0 = 0 }; end = record 
 
 -- ---- two tables
 
--- the lowest and the highest eligible address, with its free run
-unfoldable pub lowestIn : List Region → List Region → Query → Option Hit
-lowestIn ms ts q = hitOf (runAt (freeRuns ms ts)) (lowest (eligible q (freeRuns ms ts)) top)
+-- what a walk looks for among all numbers below n: upwards the lowest, downwards the highest
+abbrev pub extreme : Way → (ℕ → Bool) → ℕ → Option ℕ
+extreme Up = lowest
+extreme Down = highest
 
-unfoldable pub highestIn : List Region → List Region → Query → Option Hit
-highestIn ms ts q = hitOf (runAt (freeRuns ms ts)) (highest (eligible q (freeRuns ms ts)) top)
+-- the first eligible address in the order of the walk, with its free run
+unfoldable pub firstIn : Way → List Region → List Region → Query → Option Hit
+firstIn v ms ts q = hitOf (runAt (freeRuns ms ts)) (extreme v (eligible q (freeRuns ms ts)) top)
 
 -- parts of a block that hold good tables, and something that can be looked for
 pub record Searchable (memory : List ℕ) (mcount : ℕ) (taken : List ℕ) (tcount : ℕ) (q : Query) : Type 0 where

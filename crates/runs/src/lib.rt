@@ -5,6 +5,12 @@ use address::Size;
 pub mod fit;
 pub mod walk;
 
+// Which way a walk goes: from the lowest address up, or from the highest down.
+pub enum Way {
+    Up,
+    Down,
+}
+
 // A size, an alignment, a window from `start` up to, not including, `end`, and a node (0xFFFFFFFF: any).
 pub struct Query {
     pub size: Size,

@@ -1,5 +1,6 @@
 // The walk over two tables, lent as parts of the block: memory records, and in each the gaps that the taken records leave.
 use crate::Query;
+use crate::Way;
 use crate::fit::Place;
 use crate::fit::fit_high;
 use crate::fit::fit_low;
@@ -20,8 +21,9 @@ ghost use Rattle.regions.specs.Lists.{goodList};
 ghost use Rattle.regions.specs.Meaning.{end as endOf};
 ghost use Rattle.regions.specs.Bytes.{readRegions};
 ghost use Rattle.records.specs.Steps.{Table, endingBy};
+ghost use Rattle.runs.specs.declared.Way.the-variants.{Up, Down};
 ghost use Rattle.runs.specs.Places.{placeOf};
-ghost use Rattle.runs.specs.Steps.{boundsLow, boundsHigh, Searchable, lowestIn, highestIn};
+ghost use Rattle.runs.specs.Steps.{boundsLow, boundsHigh, Searchable, firstIn};
 
 // The first address past a record of a good table.
 fn past(r: Region) -> Address
@@ -100,9 +102,9 @@ fn before(n: usize) -> usize
 // The lowest eligible address, with its run. The records are taken from the first that reaches into the window to the last; the place `j` in the taken
 // table begins at the last record that ends below the window, never goes back, and stays where a taken record reaches past the memory record.
 // What is left of a record is a run from `low` on, cut to the window from `lo` on.
-pub fn walk_low(memory: &[u8], mcount: usize, taken: &[u8], tcount: usize, q: Query) -> Place
+fn walk_low(memory: &[u8], mcount: usize, taken: &[u8], tcount: usize, q: Query) -> Place
     requires { ⌜ Searchable (now memory) mcount (now taken) tcount q ⌝ }
-    ensures { λ r. ⌜ r ≡ placeOf (lowestIn (readRegions mcount (now (memory .entry))) (readRegions tcount (now (taken .entry))) q) ⌝ }
+    ensures { λ r. ⌜ r ≡ placeOf (firstIn Up (readRegions mcount (now (memory .entry))) (readRegions tcount (now (taken .entry))) q) ⌝ }
 {
     let first = q.start;
     let last = q.end;
@@ -144,9 +146,9 @@ pub fn walk_low(memory: &[u8], mcount: usize, taken: &[u8], tcount: usize, q: Qu
 }
 
 // The highest eligible address, with its run: the records from the last to the first, and in each the gaps from the top.
-pub fn walk_high(memory: &[u8], mcount: usize, taken: &[u8], tcount: usize, q: Query) -> Place
+fn walk_high(memory: &[u8], mcount: usize, taken: &[u8], tcount: usize, q: Query) -> Place
     requires { ⌜ Searchable (now memory) mcount (now taken) tcount q ⌝ }
-    ensures { λ r. ⌜ r ≡ placeOf (highestIn (readRegions mcount (now (memory .entry))) (readRegions tcount (now (taken .entry))) q) ⌝ }
+    ensures { λ r. ⌜ r ≡ placeOf (firstIn Down (readRegions mcount (now (memory .entry))) (readRegions tcount (now (taken .entry))) q) ⌝ }
 {
     let first = q.start;
     let last = q.end;
@@ -184,5 +186,16 @@ pub fn walk_high(memory: &[u8], mcount: usize, taken: &[u8], tcount: usize, q: Q
                 break 'records Place::Here(a, Run { low, end: top });
             }
         }
+    }
+}
+
+// The first eligible address in the order of the way, with its run.
+pub fn walk(memory: &[u8], mcount: usize, taken: &[u8], tcount: usize, q: Query, way: Way) -> Place
+    requires { ⌜ Searchable (now memory) mcount (now taken) tcount q ⌝ }
+    ensures { λ r. ⌜ r ≡ placeOf (firstIn way (readRegions mcount (now (memory .entry))) (readRegions tcount (now (taken .entry))) q) ⌝ }
+{
+    match way {
+        Way::Up => walk_low(memory, mcount, taken, tcount, q),
+        Way::Down => walk_high(memory, mcount, taken, tcount, q),
     }
 }

@@ -1,24 +1,21 @@
 -- The checks of a search, and the answers of find and next free, one by one. Assumes nothing.
 use Prim.Native.Nat.{ℕ, _+_, _-_, _≤_, _<_}
-use mathlib.Core.Path.{_≡_, refl, sym, ap, _∙_}
+use mathlib.Core.Path.{_≡_, refl, sym, ap, ap₂, _∙_}
 use mathlib.Core.Bool.{Bool, true, false, cond, not}
 use mathlib.Core.List.{List, [], _++_, append-nil}
 use mathlib.Core.Option.{Option, none, some}
 use native.Mathlib.Omega.{arith}
 use lib.Dec.{eqb, lit<}
 use lib.ListN.{length, take, drop, replicate, length-append}
-use lib.Seq.{sets, sets-eq, drop-length}
-use borrow.Author.Tests.{eq-eqb, ne-eqb, le-leb, lt-leb, eqb-false, not-true, not-false}
+use lib.Seq.{sets, sets-eq, drop-at, drop-length}
+use borrow.Author.Tests.{eq-eqb, ne-eqb, le-leb, lt-leb, eqb-true, eqb-false, not-true, not-false}
 use Rattle.address.proofs.Tests.{zero-not-one}
-use Rattle.address.specs.Numbers.{powerOfTwo, address}
+use Rattle.address.specs.Numbers.{powerOfTwo}
 use Rattle.address.specs.declared.Address.{Address}
-use Rattle.address.specs.declared.CheckedAddress.{CheckedAddress}
-use Rattle.address.specs.declared.CheckedAddress.the-variants.{At, Outside}
-use Rattle.address.proofs.Checked.{address-at, address-outside}
 use Rattle.address.proofs.Powers.{power-of}
 use Rattle.regions.specs.Meaning.{top, top-is}
-use Rattle.regions.specs.Bytes.{bytes}
-use Rattle.regions.proofs.Numbers.{bytes-length, sets-append}
+use Rattle.regions.specs.Bytes.{number, bytes}
+use Rattle.regions.proofs.Numbers.{number-bytes, bytes-length, sets-append}
 use Rattle.block.specs.declared.Layout.{Layout}
 use Rattle.block.specs.Block.{current, contents, good}
 use Rattle.block.proofs.Blocks.{bad-here, good-here}
@@ -28,9 +25,9 @@ use Rattle.regions.specs.declared.Run.{Run}
 use Rattle.runs.specs.declared.fit.Place.{Place}
 use Rattle.runs.specs.declared.fit.Place.the-variants.{Here, Nowhere}
 use Rattle.search.specs.Search.{window, runsOf, found, foundPlace, nextPlace}
-use Rattle.search.specs.Answers.{Answer, answer, refuse, slipOf, nodeKnown, checkNumber, nextNumber, asking, find, findAnswer, nextFree, nextFreeAnswer}
+use Rattle.search.specs.Answers.{Answer, answer, refuse, slipOf, nodeKnown, checkNumber, nextNumber, asking, placeAnswer, find, nextFree}
 use Rattle.runs.specs.Places.{hitOf, placeOf}
-use Rattle.search.specs.Steps.{Ready, nextQuery}
+use Rattle.search.specs.Steps.{Ready, nextQuery, begun, Told}
 use Rattle.change.specs.Steps.{Vacant}
 use Rattle.search.proofs.Found.{eligible-below, eligible-vacant, found-eligible}
 
@@ -77,11 +74,6 @@ number-ready L b q e =
     let z = eqb-false (q .size .0) 0 (t .1 .1) in
     ((t .0 .0, t .1 .0), omega arith)
 
-pub fine-ready : (b : List ℕ) (q : Query) (n : ℕ) → n ≡ checkNumber current q b → n ≡ 0 → Ready b q
-fine-ready b q n e f =
-    let t = number-ready current b q (sym e ∙ f) in
-    record { good = t .0 .0; size = t .1; align = t .0 .1 }
-
 -- ---- the slip
 
 pub slip-cleared : (s z : List ℕ) → length s ≡ 16 → z ≡ take 0 s ++ replicate (length s - 0) 0 → z ≡ replicate 16 0
@@ -94,17 +86,57 @@ slip-written s x y a e l f g =
     let h : sets s 0 (slipOf a e) ≡ slipOf a e = sets-eq (slipOf a e) s 0 (omega arith) ∙ rw d (append-nil (slipOf a e)) in
     g ∙ rw f (sym (sets-append s 0 (bytes 8 a) (bytes 8 e) ∙ rw bytes-length)) ∙ h
 
--- ---- the checks and the answer
+-- its two numbers, read back
+pub slip-first : (x y : ℕ) → x < top → number 8 (slipOf x y) ≡ x
+slip-first x y h = number-bytes 8 x (bytes 8 y) (omega (arith, top-is))
 
-module _ (k : ℕ) (b s : List ℕ) (a : Answer) where
-  pub no-slip : (length s ≡ 16 → ⊥) → answer 8 b s ≡ asking k b s a
-  no-slip h = rw (ne-eqb (length s) 16 h)
+pub slip-second : (x y : ℕ) → y ≤ top → number 8 (drop 8 (slipOf x y)) ≡ y
+slip-second x y h =
+    ap (number 8) (drop-at (bytes 8 x) (bytes 8 y) 8 (bytes-length 8 x)) ∙ rw append-nil at (number-bytes 8 y [] (omega (arith, top-is)))
 
-  pub refused : length s ≡ 16 → (n : ℕ) → n ≡ k → (n ≡ 0 → ⊥) → refuse n b ≡ asking k b s a
-  refused l n e f = rw (eq-eqb (length s) 16 l, ← e, ne-eqb n 0 f)
+-- ---- the slip and the checks, and then the answer
 
-  pub fine : length s ≡ 16 → (n : ℕ) → n ≡ k → n ≡ 0 → a ≡ asking k b s a
-  fine l n e f = rw (eq-eqb (length s) 16 l, ← e, eq-eqb n 0 f)
+module _ (k : ℕ) (b s : List ℕ) where
+  pub begun-no-slip : (length s ≡ 16 → ⊥) → answer 8 b s ≡ begun k b s
+  begun-no-slip h = rw (ne-eqb (length s) 16 h)
+
+  pub begun-checks : length s ≡ 16 → (z : List ℕ) → z ≡ replicate 16 0 → (n : ℕ) → n ≡ k → answer n b z ≡ begun k b s
+  begun-checks l z e n is = rw (eq-eqb (length s) 16 l) (ap₂ (λ (x : ℕ) (y : List ℕ). answer x b y) is e)
+
+  -- once they have passed, what is answered then is the answer
+  pub fine : length s ≡ 16 → k ≡ 0 → (a : Answer) → a ≡ asking k b s a
+  fine l e a = rw (eq-eqb (length s) 16 l, eq-eqb k 0 e)
+
+  -- the number n says whether they have
+  module _ (n : ℕ) (z : List ℕ) (e : answer n b z ≡ begun k b s) where
+    pub stopped : (n ≡ 0 → ⊥) → (a : Answer) → answer n b z ≡ asking k b s a
+    stopped f a = go (eqb (length s) 16) e
+      where
+        go : (t : Bool) → answer n b z ≡ cond t (refuse k b) (answer 8 b s) → answer n b z ≡ cond t (cond (eqb k 0) a (refuse k b)) (answer 8 b s)
+        go true h = let i : k ≡ 0 → ⊥ = λ x. f (ap (λ (y : Answer). y .number) h ∙ x) in rw (ne-eqb k 0 i) h
+        go false h = h
+
+    pub passed-on : n ≡ 0 → (length s ≡ 16) × ((k ≡ 0) × (z ≡ replicate 16 0))
+    passed-on f = go (eqb (length s) 16) refl e
+      where
+        go : (t : Bool) → eqb (length s) 16 ≡ t → answer n b z ≡ cond t (refuse k b) (answer 8 b s) → (length s ≡ 16) × ((k ≡ 0) × (z ≡ replicate 16 0))
+        go true l h = (eqb-true (length s) 16 l, (sym (ap (λ (y : Answer). y .number) h) ∙ f, ap (λ (y : Answer). y .slip) h))
+        go false l h = absurd (omega (arith, ap (λ (y : Answer). y .number) h))
+
+    pub goes-on : n ≡ 0 → (a : Answer) → a ≡ asking k b s a
+    goes-on f = fine (passed-on f .0) (passed-on f .1 .0)
+
+    pub still-zero : n ≡ 0 → z ≡ replicate 16 0
+    still-zero f = passed-on f .1 .1
+
+-- ---- what was found
+
+module _ (p : Place) (s : List ℕ) where
+  pub told-none : s ≡ replicate 16 0 → p ≡ Nowhere → Told p 5 s
+  told-none e f b = rw f (ap (answer 5 b) e)
+
+  pub told-some : (a : Address) (r : Run) → p ≡ Here a r → s ≡ slipOf (a .0) (r .end .0) → Told p 0 s
+  told-some a r f e b = rw f (ap (answer 0 b) e)
 
 -- ---- find
 
@@ -123,63 +155,38 @@ found-vacant b q p f e a u g = go (found (contents current b) q) refl (sym g ∙
         let l = found-eligible s q x h in
         rw y (eligible-below (window (s .settings .limit .0) q) s x (p .size) l, eligible-vacant (window (s .settings .limit .0) q) s x (p .size) l)
 
--- so the end of its range is an address
-pub found-ends : (b : List ℕ) (q : Query) → Ready b q → (f : Place) → f ≡ foundPlace (contents current b) q → (a : Address) (u : Run) → f ≡ Here a u
-    → (x : CheckedAddress) → x ≡ address (a .0 + q .size .0) → x ≡ Outside → (t v : Answer) → t ≡ v
-found-ends b q p f e a u g x i o t v = absurd (omega (arith, address-outside (a .0 + q .size .0) x i o, found-vacant b q p f e a u g .0, top-is))
+module _ (b s : List ℕ) (q : Query) (n : ℕ) (z : List ℕ) (e : answer n b z ≡ begun (checkNumber current q b) b s) where
+  pub begun-ready : n ≡ 0 → Ready b q
+  begun-ready f =
+      let t = number-ready current b q (passed-on (checkNumber current q b) b s n z e f .1 .0) in
+      record { good = t .0 .0; size = t .1; align = t .0 .1 }
 
-module _ (b s : List ℕ) (q : Query) where
-  abbrev found-answer : Answer
-  found-answer = findAnswer b (q .size .0) (foundPlace (contents current b) q)
-
-  pub find-no-slip : (length s ≡ 16 → ⊥) → answer 8 b s ≡ find current q b s
+  pub find-refused : (n ≡ 0 → ⊥) → answer n b z ≡ find current q b s
   unfolding find
-  find-no-slip h = no-slip (checkNumber current q b) b s found-answer h
+  find-refused f = stopped (checkNumber current q b) b s n z e f (placeAnswer b (foundPlace (contents current b) q))
 
-  module _ (l : length s ≡ 16) (n : ℕ) (is : n ≡ checkNumber current q b) where
-    pub find-refused : (z : List ℕ) → z ≡ replicate 16 0 → (n ≡ 0 → ⊥) → answer n b z ≡ find current q b s
-    unfolding find
-    find-refused z e f = ap (answer n b) e ∙ refused (checkNumber current q b) b s found-answer l n is f
-
-    module _ (f : n ≡ 0) (r : Place) (o : r ≡ foundPlace (contents current b) q) where
-      pub find-none : (z : List ℕ) → z ≡ replicate 16 0 → r ≡ Nowhere → answer 5 b z ≡ find current q b s
-      unfolding find
-      find-none z e g = ap (answer 5 b) e ∙ ap (findAnswer b (q .size .0)) (sym g ∙ o) ∙ fine (checkNumber current q b) b s found-answer l n is f
-
-      pub find-some : (a : Address) (v : Run) → r ≡ Here a v → (x : CheckedAddress) → x ≡ address (a .0 + q .size .0) → (d : Address) → x ≡ At d
-          → (y : List ℕ) → y ≡ slipOf (a .0) (d .0) → answer 0 b y ≡ find current q b s
-      unfolding find
-      find-some a v g x i d j y e =
-          let k : y ≡ slipOf (a .0) (a .0 + q .size .0) = e ∙ ap (slipOf (a .0)) (address-at (a .0 + q .size .0) x d i j .0) in
-          ap (answer 0 b) k ∙ ap (findAnswer b (q .size .0)) (sym g ∙ o) ∙ fine (checkNumber current q b) b s found-answer l n is f
+  pub find-told : n ≡ 0 → (p : Place) → p ≡ foundPlace (contents current b) q → (m : ℕ) (y : List ℕ) → Told p m y → answer m b y ≡ find current q b s
+  unfolding find
+  find-told f p o m y t = t b ∙ ap (placeAnswer b) o ∙ goes-on (checkNumber current q b) b s n z e f (placeAnswer b (foundPlace (contents current b) q))
 
 -- ---- next free
 
-module _ (b s : List ℕ) (p : Address) (node : ℕ) where
-  abbrev next-answer : Answer
-  next-answer = nextFreeAnswer b (nextPlace (contents current b) (p .0) node)
+-- it makes the checks of find: 1 is a power of two, and a size of 1 is not 0
+next-checks : (b : List ℕ) (p : Address) (node : ℕ) → checkNumber current (nextQuery p node) b ≡ nextNumber current node b
+next-checks b p node = let e : powerOfTwo 1 ≡ true = power-of 64 0 (lit< tt) in rw e
 
-  pub next-no-slip : (length s ≡ 16 → ⊥) → answer 8 b s ≡ nextFree current (p .0) node b s
+module _ (b s : List ℕ) (p : Address) (node : ℕ) (q : Query) (k : q ≡ nextQuery p node) (n : ℕ) (z : List ℕ) (e : answer n b z ≡ begun (checkNumber current q b) b s) where
+  as-next : answer n b z ≡ begun (nextNumber current node b) b s
+  as-next = rw (k, next-checks b p node) at e
+
+  pub next-refused : (n ≡ 0 → ⊥) → answer n b z ≡ nextFree current (p .0) node b s
   unfolding nextFree
-  next-no-slip h = no-slip (nextNumber current node b) b s next-answer h
+  next-refused f = stopped (nextNumber current node b) b s n z as-next f (placeAnswer b (nextPlace (contents current b) (p .0) node))
 
-  -- it makes the checks of find: 1 is a power of two, and a size of 1 is not 0
-  next-checks : (q : Query) → q ≡ nextQuery p node → (n : ℕ) → n ≡ checkNumber current q b → n ≡ nextNumber current node b
-  next-checks q k n is = let e : powerOfTwo 1 ≡ true = power-of 64 0 (lit< tt) in is ∙ rw (k, e)
+  pub next-good : n ≡ 0 → good current b ≡ true
+  next-good f = begun-ready b s q n z e f .good
 
-  module _ (l : length s ≡ 16) (q : Query) (k : q ≡ nextQuery p node) (n : ℕ) (is : n ≡ checkNumber current q b) where
-    pub next-refused : (z : List ℕ) → z ≡ replicate 16 0 → (n ≡ 0 → ⊥) → answer n b z ≡ nextFree current (p .0) node b s
-    unfolding nextFree
-    next-refused z e f = ap (answer n b) e ∙ refused (nextNumber current node b) b s next-answer l n (next-checks q k n is) f
-
-    pub next-good : n ≡ 0 → good current b ≡ true
-    next-good f = fine-ready b q n is f .good
-
-    module _ (f : n ≡ 0) (r : Place) (o : r ≡ nextPlace (contents current b) (p .0) node) where
-      pub next-none : (z : List ℕ) → z ≡ replicate 16 0 → r ≡ Nowhere → answer 5 b z ≡ nextFree current (p .0) node b s
-      unfolding nextFree
-      next-none z e g = ap (answer 5 b) e ∙ ap (nextFreeAnswer b) (sym g ∙ o) ∙ fine (nextNumber current node b) b s next-answer l n (next-checks q k n is) f
-
-      pub next-some : (a : Address) (v : Run) → r ≡ Here a v → (y : List ℕ) → y ≡ slipOf (a .0) (v .end .0) → answer 0 b y ≡ nextFree current (p .0) node b s
-      unfolding nextFree
-      next-some a v g y e = ap (answer 0 b) e ∙ ap (nextFreeAnswer b) (sym g ∙ o) ∙ fine (nextNumber current node b) b s next-answer l n (next-checks q k n is) f
+  pub next-told : n ≡ 0 → (r : Place) → r ≡ nextPlace (contents current b) (p .0) node → (m : ℕ) (y : List ℕ) → Told r m y
+      → answer m b y ≡ nextFree current (p .0) node b s
+  unfolding nextFree
+  next-told f r o m y t = t b ∙ ap (placeAnswer b) o ∙ goes-on (nextNumber current node b) b s n z as-next f (placeAnswer b (nextPlace (contents current b) (p .0) node))

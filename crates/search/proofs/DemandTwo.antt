@@ -1,5 +1,5 @@
 -- Demand 2's sentence on the searches holds of every answer of find, allocate and next free. Assumes nothing.
-use Prim.Native.Nat.{ℕ, _+_, _≤_, _<_}
+use Prim.Native.Nat.{ℕ, _≤_, _<_}
 use mathlib.Core.Path.{_≡_, refl, sym, ap, subst, _∙_}
 use mathlib.Core.Bool.{Bool, true, false, cond}
 use mathlib.Core.List.{List}
@@ -17,10 +17,9 @@ use Rattle.regions.specs.declared.Kind.the-variants.{Memory, Taken}
 use Rattle.regions.specs.declared.Region.{Region}
 use Rattle.regions.specs.declared.Run.{Run}
 use Rattle.regions.specs.declared.Change.the-variants.{Fill}
-use Rattle.regions.specs.Meaning.{top, top-is}
+use Rattle.regions.specs.Meaning.{top}
 use Rattle.regions.specs.Runs.{runAt}
-use Rattle.regions.specs.Bytes.{number, bytes}
-use Rattle.regions.proofs.Numbers.{number-bytes}
+use Rattle.regions.specs.Bytes.{number}
 use Rattle.regions.proofs.Rises.{Canonical}
 use Rattle.regions.proofs.Good.{good-rises}
 use Rattle.block.specs.declared.Layout.{Layout}
@@ -34,9 +33,9 @@ use Rattle.runs.specs.Eligible.{eligible, Gives}
 use Rattle.runs.specs.Places.{hitOf, placeOf}
 use Rattle.runs.proofs.Extremes.{lowest-gives}
 use Rattle.search.specs.Search.{window, runsOf, found, foundPlace, freeFrom, lowestFree, nextPlace}
-use Rattle.search.specs.Answers.{Answer, answer, refuse, slipOf, nodeKnown, checkNumber, nextNumber, asking, findAnswer, find, reserved, allocateAnswer, allocate, nextFreeAnswer, nextFree}
+use Rattle.search.specs.Answers.{Answer, answer, refuse, slipOf, nodeKnown, checkNumber, nextNumber, asking, placeAnswer, find, reserved, allocateAnswer, allocate, nextFree}
 use Rattle.search.specs.DemandTwo.{Eligible, FreeFrom, Best, Passed, Searched, Beyond, OrFull, LooksEligible, FindSentence, AllocateSentence, NextFreeSentence}
-use Rattle.search.proofs.Answering.{number-ready, fine}
+use Rattle.search.proofs.Answering.{number-ready, slip-first, fine}
 use Rattle.search.proofs.Eligible.{passes-eligible, eligible-ends, eligible-passes, passes-free, free-ends, free-passes}
 use Rattle.search.proofs.Found.{found-gives}
 
@@ -56,7 +55,7 @@ record Met (E : ℕ → Type 0) (beyond : ℕ → ℕ → Type 0) (done : ℕ �
 
 module _ (n : ℕ) (b slip : List ℕ) (a : Answer) where
   -- numbers that are not the checks'
-  passed : n ≤ 4 → (m : ℕ) → (m ≡ 0) ⊎ ((4 < m) × (m < 8)) → asking n b slip a .number ≡ m → Passed n slip
+  pub passed : n ≤ 4 → (m : ℕ) → (m ≡ 0) ⊎ ((4 < m) × (m < 8)) → asking n b slip a .number ≡ m → Passed n slip
   passed h m k e = go (eqb (length slip) 16) refl (eqb n 0) refl k e
     where
       go : (w : Bool) → eqb (length slip) 16 ≡ w → (t : Bool) → eqb n 0 ≡ t → (m ≡ 0) ⊎ ((4 < m) × (m < 8))
@@ -67,8 +66,8 @@ module _ (n : ℕ) (b slip : List ℕ) (a : Answer) where
       go false i t j (inl k) e = absurd (omega arith)
       go false i t j (inr k) e = absurd (omega (arith, k .1))
 
-  through : Passed n slip → asking n b slip a ≡ a
-  through p = sym (fine n b slip a (p .of-16) n refl (p .fine))
+  pub through : Passed n slip → asking n b slip a ≡ a
+  through p = sym (fine n b slip (p .of-16) (p .fine) a)
 
   module _ (E : ℕ → Type 0) (beyond : ℕ → ℕ → Type 0) (done : ℕ → Type 0) (h : n ≤ 4) (answered : Passed n slip → Missed E a ⊎ Met E beyond done a) where
     searched : Searched (Passed n slip) E beyond done (asking n b slip a)
@@ -114,9 +113,6 @@ record Answers (done : ℕ → Type 0) (answers : Place → Answer) : Type 0 whe
   other : done 5 → ⊥
   first : (a : Address) (r : Run) → a .0 < top → answers (Here a r) .number ≡ 0 → number 8 (answers (Here a r) .slip) ≡ a .0
 
-pub slip-first : (x y : ℕ) → x < top → number 8 (slipOf x y) ≡ x
-slip-first x y h = number-bytes 8 x (bytes 8 y) (omega (arith, top-is))
-
 -- E holds where a test passes, all below the top, and the best that passes is answered
 module _ (E : ℕ → Type 0) (test : ℕ → Bool) (passes : (x : ℕ) → test x ≡ true → E x) (holds : (x : ℕ) → E x → (test x ≡ true) × (x < top)) where
   fails : (x : ℕ) → E x → (x < top → test x ≡ false) → ⊥
@@ -130,12 +126,12 @@ module _ (E : ℕ → Type 0) (test : ℕ → Bool) (passes : (x : ℕ) → test
       let b : Best E beyond x = record { holds = passes x (g .0); none-beyond = λ y e m. fails y e (λ l. g .1 .1 y l m) } in
       inr (record { at = x; best = b; so = d; other = λ e. k .other (subst done e d); named = k .first (record { 0 = x }) (w x) (g .1 .0) })
 
-memory-rises : (L : Layout) (b : List ℕ) → good L b ≡ true → Canonical top (contents L b .memory)
+pub memory-rises : (L : Layout) (b : List ℕ) → good L b ≡ true → Canonical top (contents L b .memory)
 memory-rises L b g = good-rises Memory (contents L b .memory) (lists-ok L (contents L b) (good-contents L b g) Memory)
 
 -- ---- find and allocate
 
-check-low : (L : Layout) (q : Query) (b : List ℕ) → checkNumber L q b ≤ 4
+pub check-low : (L : Layout) (q : Query) (b : List ℕ) → checkNumber L q b ≤ 4
 check-low L q b = go (good L b) (nodeKnown (q .node)) (powerOfTwo (q .align .0)) (eqb (q .size .0) 0)
   where
     go : (g k p z : Bool) → cond g (cond k (cond p (cond z 4 0) 3) 2) 1 ≤ 4
@@ -163,12 +159,13 @@ module _ (L : Layout) (q : Query) (b slip : List ℕ) (done : ℕ → Type 0) (a
       searched (checkNumber L q b) b slip (answers (foundPlace (contents L b) q)) (Eligible (contents L b) q) (Beyond (contents L b .settings .direction)) done
       (check-low L q b) found-answered
 
-find-answers : (b : List ℕ) (size : ℕ) → Answers (λ n. n ≡ 0) (findAnswer b size)
-find-answers b size = record { nowhere = refl; here = λ a r. refl; other = λ e. omega arith; first = λ a r l e. slip-first (a .0) (a .0 + size) l }
+-- so find and next free answer
+place-answers : (b : List ℕ) → Answers (λ n. n ≡ 0) (placeAnswer b)
+place-answers b = record { nowhere = refl; here = λ a r. refl; other = λ e. omega arith; first = λ a r l e. slip-first (a .0) (r .end .0) l }
 
 pub find-sentence : FindSentence
 unfolding find
-find-sentence L q b slip = found-searched L q b slip (λ n. n ≡ 0) (findAnswer b (q .size .0)) (find-answers b (q .size .0))
+find-sentence L q b slip = found-searched L q b slip (λ n. n ≡ 0) (placeAnswer b) (place-answers b)
 
 -- a list is stored, or the table is full
 stored : (L : Layout) (k : Kind) (xs : List Region) (b : List ℕ) → OrFull (store L k xs b .number)
@@ -180,15 +177,15 @@ stored L k xs b = go (leb (length xs) (capacity L k))
     go false = inr refl
 
 allocate-answers : (L : Layout) (b : List ℕ) (size : ℕ) → Answers OrFull (allocateAnswer L b size)
-allocate-answers L b size = record { nowhere = refl; here = λ a r. here (a .0) (taking (a .0)) (stored L Taken _ b); other = other; first = λ a r l e. first (a .0) (taking (a .0)) l e }
+allocate-answers L b size = record { nowhere = refl; here = λ a r. here (a .0) (r .end .0) (taking (a .0)) (stored L Taken _ b); other = other; first = λ a r l e. first (a .0) (r .end .0) (taking (a .0)) l e }
   where
     taking : ℕ → Outcome
     taking a = changeRange L Taken (Fill (tag 0 0)) a size b
 
-    here : (a : ℕ) (o : Outcome) → OrFull (o .number) → OrFull (reserved b a size o .number)
-    here a o n = go (eqb (o .number) 0)
+    here : (a end : ℕ) (o : Outcome) → OrFull (o .number) → OrFull (reserved b a end o .number)
+    here a end o n = go (eqb (o .number) 0)
       where
-        go : (t : Bool) → OrFull (cond t (answer 0 (o .block) (slipOf a (a + size))) (refuse (o .number) b) .number)
+        go : (t : Bool) → OrFull (cond t (answer 0 (o .block) (slipOf a end)) (refuse (o .number) b) .number)
         go true = inl refl
         go false = n
 
@@ -196,12 +193,12 @@ allocate-answers L b size = record { nowhere = refl; here = λ a r. here (a .0) 
     other (inl e) = omega arith
     other (inr e) = omega arith
 
-    first : (a : ℕ) (o : Outcome) → a < top → reserved b a size o .number ≡ 0 → number 8 (reserved b a size o .slip) ≡ a
-    first a o l = go (eqb (o .number) 0) refl
+    first : (a end : ℕ) (o : Outcome) → a < top → reserved b a end o .number ≡ 0 → number 8 (reserved b a end o .slip) ≡ a
+    first a end o l = go (eqb (o .number) 0) refl
       where
-        go : (t : Bool) → eqb (o .number) 0 ≡ t → cond t (answer 0 (o .block) (slipOf a (a + size))) (refuse (o .number) b) .number ≡ 0
-            → number 8 (cond t (answer 0 (o .block) (slipOf a (a + size))) (refuse (o .number) b) .slip) ≡ a
-        go true f e = slip-first a (a + size) l
+        go : (t : Bool) → eqb (o .number) 0 ≡ t → cond t (answer 0 (o .block) (slipOf a end)) (refuse (o .number) b) .number ≡ 0
+            → number 8 (cond t (answer 0 (o .block) (slipOf a end)) (refuse (o .number) b) .slip) ≡ a
+        go true f e = slip-first a end l
         go false f e = absurd (eqb-false (o .number) 0 f e)
 
 pub allocate-sentence : AllocateSentence
@@ -210,12 +207,12 @@ allocate-sentence L q b slip = found-searched L q b slip OrFull (allocateAnswer 
 
 -- ---- next free
 
-next-low : (g k : Bool) → cond g (cond k 0 2) 1 ≤ 4
+pub next-low : (g k : Bool) → cond g (cond k 0 2) 1 ≤ 4
 next-low false k = omega arith
 next-low true false = omega arith
 next-low true true = omega arith
 
-next-checked : (g k : Bool) → _≡_ {A = ℕ} (cond g (cond k 0 2) 1) 0 → g ≡ true
+pub next-checked : (g k : Bool) → _≡_ {A = ℕ} (cond g (cond k 0 2) 1) 0 → g ≡ true
 next-checked true k e = refl
 next-checked false k e = absurd (omega arith)
 
@@ -223,9 +220,8 @@ pub next-free-sentence : NextFreeSentence
 unfolding nextFree nextPlace lowestFree
 next-free-sentence L p node b slip =
     let s = contents L b in
-    let a = nextFreeAnswer b (nextPlace s p node) in
-    let k : Answers (λ n. n ≡ 0) (nextFreeAnswer b) = record { nowhere = refl; here = λ x r. refl; other = λ e. omega arith; first = λ x r l e. slip-first (x .0) (r .end .0) l } in
+    let a = placeAnswer b (nextPlace s p node) in
     searched (nextNumber L node b) b slip a (FreeFrom s p node) (λ y x. y < x) (λ n. n ≡ 0) (next-low (good L b) (nodeKnown node))
     (λ d. let w = memory-rises L b (next-checked (good L b) (nodeKnown node) (d .fine)) in
     answered (FreeFrom s p node) (freeFrom p node (runsOf s)) (passes-free s p node) (λ x e. (free-passes s p node x w e, free-ends s p node x w e)) (λ y x. y < x) (λ n. n ≡ 0)
-    (nextFreeAnswer b) k (runAt (runsOf s)) (lowestFree s p node) (lowest-gives (freeFrom p node (runsOf s)) top))
+    (placeAnswer b) (place-answers b) (runAt (runsOf s)) (lowestFree s p node) (lowest-gives (freeFrom p node (runsOf s)) top))

@@ -24,7 +24,7 @@ use Rattle.search.specs.Search.{windowStart, window, runsOf, freeFrom}
 use Rattle.search.specs.DemandTwo.{freeIn, Eligible, FreeFrom}
 
 -- what is free lies in a memory record, and those end at the top or below
-free-below : (s : Contents) → Canonical top (s .memory) → (a : ℕ) (t : Tag) → freeIn s a ≡ Present t → a < top
+pub free-below : (s : Contents) → Canonical top (s .memory) → (a : ℕ) (t : Tag) → freeIn s a ≡ Present t → a < top
 unfolding freeMemory
 free-below s w a t e = go (le-or-lt top a)
   where

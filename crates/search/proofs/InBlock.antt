@@ -21,13 +21,15 @@ use Rattle.block.specs.Block.{current, capacity, offset, blockLength, Contents,
 use Rattle.block.proofs.Blocks.{part-length, room, lists-ok, good-contents, good-length}
 use Rattle.regions.specs.Runs.{inOne}
 use Rattle.runs.specs.declared.Query.{Query}
+use Rattle.runs.specs.declared.Way.{Way}
+use Rattle.runs.specs.declared.Way.the-variants.{Up, Down}
 use Rattle.search.specs.declared.seek.Parts.{Parts}
 use Rattle.runs.specs.declared.fit.Place.{Place}
 use Rattle.runs.specs.Eligible.{onNode, eligible}
 use Rattle.runs.specs.Places.{placeOf}
-use Rattle.runs.specs.Steps.{Searchable, lowestIn, highestIn}
+use Rattle.runs.specs.Steps.{Searchable, firstIn}
 use Rattle.search.specs.Search.{boundedEnd, window, windowEnd, runsOf, found, foundPlace, freeFrom, lowestFree, nextPlace}
-use Rattle.search.specs.Steps.{Ready, partsOf, lowestOf, highestOf, nextQuery}
+use Rattle.search.specs.Steps.{Ready, partsOf, firstOf, nextQuery}
 use Rattle.runs.proofs.Stretches.{lowest-agree}
 
 -- ---- the window
@@ -100,17 +102,11 @@ module _ (b : List ℕ) (q : Query) (t : Parts) (is : t ≡ partsOf b) where
     unfolding capacity offset
     searchable = rw is (parts b q p)
 
-  pub lowest-is : (f : Place)
-      → f ≡ placeOf (lowestIn (readRegions (t .memory) (take (t .middle - 80) (drop 80 b))) (readRegions (t .taken) (take (t .end - t .middle) (drop (t .middle) b))) q)
-      → f ≡ lowestOf (contents current b) q
+  pub first-is : (v : Way) (f : Place)
+      → f ≡ placeOf (firstIn v (readRegions (t .memory) (take (t .middle - 80) (drop 80 b))) (readRegions (t .taken) (take (t .end - t .middle) (drop (t .middle) b))) q)
+      → f ≡ firstOf v (contents current b) q
   unfolding contents capacity offset
-  lowest-is f e = rw is at e
-
-  pub highest-is : (f : Place)
-      → f ≡ placeOf (highestIn (readRegions (t .memory) (take (t .middle - 80) (drop 80 b))) (readRegions (t .taken) (take (t .end - t .middle) (drop (t .middle) b))) q)
-      → f ≡ highestOf (contents current b) q
-  unfolding contents capacity offset
-  highest-is f e = rw is at e
+  first-is v f e = rw is at e
 
 -- ---- find
 
@@ -122,13 +118,20 @@ module _ (b : List ℕ) (q : Query) (h : Header) (r : h ≡ readHeader b) (w : Q
   unfolding contents
   limit-is = rw r at e
 
-  pub find-low : h .settings .direction ≡ 1 → (f : Place) → f ≡ lowestOf (contents current b) w → f ≡ foundPlace (contents current b) q
-  unfolding found foundPlace contents lowestIn
-  find-low d f i = let k : readHeader b .settings .direction ≡ 1 = rw r at d in rw (eq-eqb (readHeader b .settings .direction) 1 k, ← limit-is) i
+-- the way of a direction: upwards 1, downwards any other
+abbrev Goes : Way → ℕ → Type 0
+Goes Up d = d ≡ 1
+Goes Down d = d ≡ 1 → ⊥
 
-  pub find-high : (h .settings .direction ≡ 1 → ⊥) → (f : Place) → f ≡ highestOf (contents current b) w → f ≡ foundPlace (contents current b) q
-  unfolding found foundPlace contents highestIn
-  find-high d f i = let k : readHeader b .settings .direction ≡ 1 → ⊥ = rw r at d in rw (ne-eqb (readHeader b .settings .direction) 1 k, ← limit-is) i
+pub find-first : (v : Way) (b : List ℕ) (q : Query) (h : Header) → h ≡ readHeader b → (w : Query) → w ≡ window (h .settings .limit .0) q → Goes v (h .settings .direction)
+    → (f : Place) → f ≡ firstOf v (contents current b) w → f ≡ foundPlace (contents current b) q
+unfolding found foundPlace contents firstIn
+find-first Up b q h r w e d f i =
+    let k : readHeader b .settings .direction ≡ 1 = rw r at d in
+    rw (eq-eqb (readHeader b .settings .direction) 1 k, ← limit-is b q h r w e) i
+find-first Down b q h r w e d f i =
+    let k : readHeader b .settings .direction ≡ 1 → ⊥ = rw r at d in
+    rw (ne-eqb (readHeader b .settings .direction) 1 k, ← limit-is b q h r w e) i
 
 -- ---- next free
 
@@ -147,8 +150,8 @@ next-eligible p node runs a h =
     go true = refl
     go false = refl
 
-pub next-found : (s : Contents) (p : Address) (node : ℕ) (q : Query) → q ≡ nextQuery p node → (f : Place) → f ≡ lowestOf s q → f ≡ nextPlace s (p .0) node
-unfolding lowestIn nextPlace lowestFree
+pub next-found : (s : Contents) (p : Address) (node : ℕ) (q : Query) → q ≡ nextQuery p node → (f : Place) → f ≡ firstOf Up s q → f ≡ nextPlace s (p .0) node
+unfolding firstIn nextPlace lowestFree
 next-found s p node q e f i =
     let k = lowest-agree (eligible (nextQuery p node) (runsOf s)) (freeFrom (p .0) node (runsOf s)) top (next-eligible p node (runsOf s)) in
     rw (e, k) at i

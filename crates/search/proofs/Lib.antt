@@ -5,3 +5,4 @@ pub mod Eligible
 pub mod Found
 pub mod InBlock
 pub mod Reserving
+pub mod RunEnd

@@ -1,5 +1,5 @@
 -- Allocate is find and then reserve. Assumes nothing.
-use Prim.Native.Nat.{ℕ, _+_, _<_}
+use Prim.Native.Nat.{ℕ, _<_}
 use mathlib.Core.Path.{_≡_, refl, sym, ap, _∙_}
 use mathlib.Core.Bool.{Bool, true, false, cond}
 use mathlib.Core.List.{List}
@@ -21,11 +21,10 @@ use Rattle.runs.specs.declared.Query.{Query}
 use Rattle.runs.specs.Eligible.{eligible, Gives}
 use Rattle.runs.specs.Places.{hitOf, placeOf}
 use Rattle.search.specs.Search.{window, runsOf, found, foundPlace}
-use Rattle.search.specs.Answers.{Answer, answer, refuse, slipOf, checkNumber, find, findAnswer, allocate, allocateAnswer, reserved}
+use Rattle.search.specs.Answers.{Answer, answer, refuse, slipOf, checkNumber, placeAnswer, find, allocate, allocateAnswer, reserved}
 use Rattle.search.specs.DemandTwo.{Beyond, ReserveSentence}
-use Rattle.search.proofs.Answering.{number-ready}
+use Rattle.search.proofs.Answering.{number-ready, slip-first}
 use Rattle.search.proofs.Allocating.{store-leaves}
-use Rattle.search.proofs.DemandTwo.{slip-first}
 use Rattle.search.proofs.Found.{found-gives}
 
 -- f is what find answers, a what allocate answers, o what reserve does
@@ -39,10 +38,10 @@ alike : (f : Answer) (o : Outcome) → (f .number ≡ 0 → ⊥) → Then f f o
 alike f o h = record { refused = λ d. refl; number = λ e. absurd (h e); block = λ e. absurd (h e); slip = λ e. refl }
 
 -- what was reserved, or the table is full and nothing has changed
-reserved-then : (b : List ℕ) (a size : ℕ) (o : Outcome) → ((o .number ≡ 0 → ⊥) → o .block ≡ b) → Then (answer 0 b (slipOf a (a + size))) (reserved b a size o) o
-reserved-then b a size o k = go (eqb (o .number) 0) refl
+reserved-then : (b : List ℕ) (a end : ℕ) (o : Outcome) → ((o .number ≡ 0 → ⊥) → o .block ≡ b) → Then (answer 0 b (slipOf a end)) (reserved b a end o) o
+reserved-then b a end o k = go (eqb (o .number) 0) refl
   where
-    go : (t : Bool) → eqb (o .number) 0 ≡ t → Then (answer 0 b (slipOf a (a + size))) (cond t (answer 0 (o .block) (slipOf a (a + size))) (refuse (o .number) b)) o
+    go : (t : Bool) → eqb (o .number) 0 ≡ t → Then (answer 0 b (slipOf a end)) (cond t (answer 0 (o .block) (slipOf a end)) (refuse (o .number) b)) o
     go true e = record { refused = λ d. absurd (d refl); number = λ z. sym (eqb-true (o .number) 0 e); block = λ z. refl; slip = λ z. refl }
     go false e =
         let d = eqb-false (o .number) 0 e in
@@ -70,14 +69,17 @@ reserve-sentence L q b slip =
     n = checkNumber L q b
 
     finds : Bool → Bool → Option ℕ → Answer
-    finds w t o = cond w (cond t (findAnswer b (q .size .0) (placeOf (hitOf (runAt (runsOf (contents L b))) o))) (refuse n b)) (answer 8 b slip)
+    finds w t o = cond w (cond t (placeAnswer b (placeOf (hitOf (runAt (runsOf (contents L b))) o))) (refuse n b)) (answer 8 b slip)
 
     takes : Bool → Bool → Option ℕ → Answer
     takes w t o = cond w (cond t (allocateAnswer L b (q .size .0) (placeOf (hitOf (runAt (runsOf (contents L b))) o))) (refuse n b)) (answer 8 b slip)
 
-    there : (x : ℕ) → eqb n 0 ≡ true → x < top → commandOutcome L (command Reserve (number 8 (slipOf x (x + q .size .0))) (q .size .0)) b ≡ taking L q b x
+    end : ℕ → ℕ
+    end x = runAt (runsOf (contents L b)) x .end .0
+
+    there : (x : ℕ) → eqb n 0 ≡ true → x < top → commandOutcome L (command Reserve (number 8 (slipOf x (end x))) (q .size .0)) b ≡ taking L q b x
     there x e l =
-        ap (λ (y : ℕ). commandOutcome L (command Reserve y (q .size .0)) b) (slip-first x (x + q .size .0) l)
+        ap (λ (y : ℕ). commandOutcome L (command Reserve y (q .size .0)) b) (slip-first x (end x) l)
         ∙ reserve-is L q b (number-ready L b q (eqb-true n 0 e) .0 .0) x
 
     go : (w t : Bool) → eqb n 0 ≡ t → (o : Option ℕ) → Gives (eligible (window (contents L b .settings .limit .0) q) (runsOf (contents L b))) (Beyond (contents L b .settings .direction)) top o
@@ -85,4 +87,4 @@ reserve-sentence L q b slip =
     go false t e o g = alike (answer 8 b slip) _ (λ z. omega (arith, z))
     go true false e o g = alike (refuse n b) _ (eqb-false n 0 e)
     go true true e none g = alike (refuse 5 b) _ (λ z. omega (arith, z))
-    go true true e (some x) g = rw (there x e (g .1 .0)) (reserved-then b x (q .size .0) (taking L q b x) (leaves L q b x))
+    go true true e (some x) g = rw (there x e (g .1 .0)) (reserved-then b x (end x) (taking L q b x) (leaves L q b x))

@@ -1,5 +1,5 @@
 -- What find, next free and allocate answer and leave, for all inputs: refusals in document 01's order. Assumes nothing.
-use Prim.Native.Nat.{ℕ, _+_}
+use Prim.Native.Nat.{ℕ}
 use mathlib.Core.Bool.{Bool, cond, _||_}
 use mathlib.Core.List.{List, _++_}
 use lib.Dec.{leb, eqb}
@@ -60,29 +60,24 @@ nextNumber L node b = cond (good L b) (cond (nodeKnown node) 0 2) 1
 abbrev pub asking : ℕ → List ℕ → List ℕ → Answer → Answer
 asking n b slip a = withSlip b slip (unless (eqb n 0) n b a)
 
--- find's address and the end of its range; the block stays
-abbrev pub findAnswer : List ℕ → ℕ → Place → Answer
-findAnswer b size Nowhere = refuse 5 b
-findAnswer b size (Here a run) = answer 0 b (slipOf (a .0) (a .0 + size))
+-- the address found and the end of its free run (E5), for find and next free; the block stays
+abbrev pub placeAnswer : List ℕ → Place → Answer
+placeAnswer b Nowhere = refuse 5 b
+placeAnswer b (Here a run) = answer 0 b (slipOf (a .0) (run .end .0))
 
 unfoldable pub find : Layout → Query → List ℕ → List ℕ → Answer
-find L q b slip = asking (checkNumber L q b) b slip (findAnswer b (q .size .0) (foundPlace (contents L b) q))
+find L q b slip = asking (checkNumber L q b) b slip (placeAnswer b (foundPlace (contents L b) q))
 
--- what was reserved, or table full
+-- the address reserved and the end of the run that held it before the call, or table full
 abbrev pub reserved : List ℕ → ℕ → ℕ → Outcome → Answer
-reserved b a size o = cond (eqb (o .number) 0) (answer 0 (o .block) (slipOf a (a + size))) (refuse (o .number) b)
+reserved b a end o = cond (eqb (o .number) 0) (answer 0 (o .block) (slipOf a end)) (refuse (o .number) b)
 
 abbrev pub allocateAnswer : Layout → List ℕ → ℕ → Place → Answer
 allocateAnswer L b size Nowhere = refuse 5 b
-allocateAnswer L b size (Here a run) = reserved b (a .0) size (changeRange L Taken (Fill (tag 0 0)) (a .0) size b)
+allocateAnswer L b size (Here a run) = reserved b (a .0) (run .end .0) (changeRange L Taken (Fill (tag 0 0)) (a .0) size b)
 
 unfoldable pub allocate : Layout → Query → List ℕ → List ℕ → Answer
 allocate L q b slip = asking (checkNumber L q b) b slip (allocateAnswer L b (q .size .0) (foundPlace (contents L b) q))
 
--- next free's address and the end of its run
-abbrev pub nextFreeAnswer : List ℕ → Place → Answer
-nextFreeAnswer b Nowhere = refuse 5 b
-nextFreeAnswer b (Here a run) = answer 0 b (slipOf (a .0) (run .end .0))
-
 unfoldable pub nextFree : Layout → ℕ → ℕ → List ℕ → List ℕ → Answer
-nextFree L p node b slip = asking (nextNumber L node b) b slip (nextFreeAnswer b (nextPlace (contents L b) p node))
+nextFree L p node b slip = asking (nextNumber L node b) b slip (placeAnswer b (nextPlace (contents L b) p node))

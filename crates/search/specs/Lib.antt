@@ -1,4 +1,5 @@
-pub mod Search
 pub mod Answers
 pub mod DemandTwo
+pub mod RunEnd
+pub mod Search
 pub mod Steps

@@ -11,10 +11,12 @@ use Rattle.regions.specs.Meaning.{top}
 use Rattle.block.specs.Block.{current, offset, blockLength, Contents, readHeader, contents, good}
 use Rattle.change.specs.Steps.{Vacant}
 use Rattle.runs.specs.declared.Query.{Query}
+use Rattle.runs.specs.declared.Way.{Way}
 use Rattle.runs.specs.declared.fit.Place.{Place}
 use Rattle.runs.specs.Places.{placeOf}
-use Rattle.runs.specs.Steps.{lowestIn, highestIn}
+use Rattle.runs.specs.Steps.{firstIn}
 use Rattle.search.specs.declared.seek.Parts.{Parts}
+use Rattle.search.specs.Answers.{Answer, answer, refuse, withSlip, placeAnswer}
 
 -- a good block, and something that can be looked for
 pub record Ready (b : List ℕ) (q : Query) : Type 0 where
@@ -26,16 +28,21 @@ pub record Ready (b : List ℕ) (q : Query) : Type 0 where
 abbrev pub partsOf : List ℕ → Parts
 partsOf b = record { middle = offset current Taken; end = blockLength current; memory = readHeader b .memory .count; taken = readHeader b .taken .count }
 
--- what the walks find in the tables
-abbrev pub lowestOf : Contents → Query → Place
-lowestOf s q = placeOf (lowestIn (s .memory) (s .taken) q)
-
-abbrev pub highestOf : Contents → Query → Place
-highestOf s q = placeOf (highestIn (s .memory) (s .taken) q)
+-- what a walk finds in the tables
+abbrev pub firstOf : Way → Contents → Query → Place
+firstOf v s q = placeOf (firstIn v (s .memory) (s .taken) q)
 
 -- what next free asks: one address from p on
 abbrev pub nextQuery : Address → ℕ → Query
 nextQuery p node = record { size = record { 0 = 1 }; align = record { 0 = 1 }; start = p; end = record { 0 = 18446744073709551615 }; node = node }
+
+-- the slip and the checks, whose number is n, and no more: a slip of 16 bytes is all zero
+abbrev pub begun : ℕ → List ℕ → List ℕ → Answer
+begun n b slip = withSlip b slip (refuse n b)
+
+-- the number n and the slip are the answer for that place, whatever the block
+abbrev pub Told : Place → ℕ → List ℕ → Type 0
+Told p n slip = (b : List ℕ) → answer n b slip ≡ placeAnswer b p
 
 -- what allocate reserves: some addresses of a good block, none of them taken; the slip is still all zero
 pub record Reservable (b : List ℕ) (a size : ℕ) (slip : List ℕ) : Type 0 where

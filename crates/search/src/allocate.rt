@@ -1,10 +1,8 @@
 // Allocate: looks for an address and goes on only when there is one; then it reserves the size found there.
-use crate::find::check;
-use crate::find::clear_slip;
+use crate::find::begin;
 use crate::find::put_slip;
 use crate::seek::find_in;
 use address::Address;
-use address::CheckedAddress;
 use address::Size;
 use regions::Kind;
 use regions::Tag;
@@ -19,15 +17,11 @@ ghost use Rattle.tables.specs.Commands.{tag, changeRange};
 ghost use Rattle.search.specs.Answers.{answer, reserved, allocate as allocateSpec};
 ghost use Rattle.search.specs.Steps.{Reservable};
 
-// Reserves the `size` addresses from `a` on, and writes them to the slip.
-fn take_found(block: &mut [u8], a: Address, size: Size, slip: &mut [u8]) -> u32
+// Reserves the `size` addresses from `a` on, and writes `a` and `end` to the slip.
+fn take_found(block: &mut [u8], a: Address, size: Size, end: Address, slip: &mut [u8]) -> u32
     requires { ⌜ Reservable (now block) (a .0) (size .0) (now slip) ⌝ }
-    ensures { λ r. ⌜ answer r (now (block .exit)) (now (slip .exit)) ≡ reserved (now (block .entry)) (a .0) (size .0) (changeRange current Taken (Fill (tag 0 0)) (a .0) (size .0) (now (block .entry))) ⌝ }
+    ensures { λ r. ⌜ answer r (now (block .exit)) (now (slip .exit)) ≡ reserved (now (block .entry)) (a .0) (end .0) (changeRange current Taken (Fill (tag 0 0)) (a .0) (size .0) (now (block .entry))) ⌝ }
 {
-    // What is found ends at the top or below.
-    let CheckedAddress::At(end) = a.plus(size) else {
-        return 5;
-    };
     let plain = Tag { flags: 0, node: 0 };
     let number = fill_range(block, Kind::Taken, plain, a, size);
     if number != 0 {
@@ -37,21 +31,18 @@ fn take_found(block: &mut [u8], a: Address, size: Size, slip: &mut [u8]) -> u32
     0
 }
 
-// Reserves the address that find finds, and writes it and the end of its range.
+// Reserves the address that find finds, and writes it and the end of the free run that held it.
 pub fn allocate(block: &mut [u8], q: Query, slip: &mut [u8]) -> u32
     ensures { λ r. ⌜ answer r (now (block .exit)) (now (slip .exit)) ≡ allocateSpec current q (now (block .entry)) (now (slip .entry)) ⌝ }
 {
-    if slip.len() != 16 {
-        return 8;
-    }
-    clear_slip(slip);
-    let number = check(block, q);
+    let number = begin(block, q, slip);
     if number != 0 {
         return number;
     }
-    let Place::Here(a, _) = find_in(block, q) else {
+    let Place::Here(a, run) = find_in(block, q) else {
         return 5;
     };
     let size = q.size;
-    take_found(block, a, size, slip)
+    let end = run.end;
+    take_found(block, a, size, end, slip)
 }

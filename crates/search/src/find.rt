@@ -3,7 +3,6 @@ use crate::seek::find_in;
 use crate::seek::next_in;
 use crate::seek::next_query;
 use address::Address;
-use address::CheckedAddress;
 use block::block_good;
 use block::current_layout;
 use records::table::put_zeros;
@@ -14,6 +13,7 @@ ghost use mathlib.Core.Path.{_≡_};
 ghost use lib.ListN.{length, replicate};
 ghost use Rattle.block.specs.Block.{current};
 ghost use Rattle.search.specs.Answers.{answer, slipOf, nodeKnown, checkNumber, find as findSpec, nextFree};
+ghost use Rattle.search.specs.Steps.{begun, Told};
 
 // Whether the node may be asked for: 0 to 63, or any.
 fn node_known(node: u32) -> bool
@@ -26,7 +26,7 @@ fn node_known(node: u32) -> bool
 }
 
 // The number of the checks, in document 01's order: the block, the node, the alignment, the size; 0, if they pass.
-pub fn check(block: &[u8], q: Query) -> u32
+fn check(block: &[u8], q: Query) -> u32
     ensures { λ r. ⌜ r ≡ checkNumber current q (now (block .entry)) ⌝ }
 {
     let layout = current_layout();
@@ -47,7 +47,7 @@ pub fn check(block: &[u8], q: Query) -> u32
 }
 
 // An answer slip that says nothing.
-pub fn clear_slip(slip: &mut [u8])
+fn clear_slip(slip: &mut [u8])
     requires { ⌜ length (now slip) ≡ 16 ⌝ }
     ensures { λ _. ⌜ now (slip .exit) ≡ replicate 16 0 ⌝ }
 {
@@ -63,46 +63,48 @@ pub fn put_slip(slip: &mut [u8], first: Address, second: Address)
     put_u64(slip, 8, second.0);
 }
 
-// Writes the address found and the end of its range.
-pub fn find(block: &[u8], q: Query, slip: &mut [u8]) -> u32
-    ensures { λ r. ⌜ answer r (now (block .entry)) (now (slip .exit)) ≡ findSpec current q (now (block .entry)) (now (slip .entry)) ⌝ }
+// The slip and the checks, before a search: 8 for a slip of another length; else the slip is cleared, and the number is that of the checks.
+pub fn begin(block: &[u8], q: Query, slip: &mut [u8]) -> u32
+    ensures { λ r. ⌜ answer r (now (block .entry)) (now (slip .exit)) ≡ begun (checkNumber current q (now (block .entry))) (now (block .entry)) (now (slip .entry)) ⌝ }
 {
     if slip.len() != 16 {
         return 8;
     }
     clear_slip(slip);
-    let number = check(block, q);
+    check(block, q)
+}
+
+// Writes what was found, an address and the end of its free run; 5, if there is none.
+fn tell(place: Place, slip: &mut [u8]) -> u32
+    requires { ⌜ now slip ≡ replicate 16 0 ⌝ }
+    ensures { λ r. ⌜ Told place r (now (slip .exit)) ⌝ }
+{
+    let Place::Here(a, run) = place else {
+        return 5;
+    };
+    let end = run.end;
+    put_slip(slip, a, end);
+    0
+}
+
+// Writes the address found and the end of its free run.
+pub fn find(block: &[u8], q: Query, slip: &mut [u8]) -> u32
+    ensures { λ r. ⌜ answer r (now (block .entry)) (now (slip .exit)) ≡ findSpec current q (now (block .entry)) (now (slip .entry)) ⌝ }
+{
+    let number = begin(block, q, slip);
     if number != 0 {
         return number;
     }
-    let Place::Here(a, _) = find_in(block, q) else {
-        return 5;
-    };
-    let size = q.size;
-    // What is found ends at the top or below.
-    let CheckedAddress::At(end) = a.plus(size) else {
-        return 5;
-    };
-    put_slip(slip, a, end);
-    0
+    tell(find_in(block, q), slip)
 }
 
 // Writes the lowest free address at or above `p` of the node asked for, and the end of its run.
 pub fn next_free(block: &[u8], p: Address, node: u32, slip: &mut [u8]) -> u32
     ensures { λ r. ⌜ answer r (now (block .entry)) (now (slip .exit)) ≡ nextFree current (p .0) node (now (block .entry)) (now (slip .entry)) ⌝ }
 {
-    if slip.len() != 16 {
-        return 8;
-    }
-    clear_slip(slip);
-    let number = check(block, next_query(p, node));
+    let number = begin(block, next_query(p, node), slip);
     if number != 0 {
         return number;
     }
-    let Place::Here(a, run) = next_in(block, p, node) else {
-        return 5;
-    };
-    let end = run.end;
-    put_slip(slip, a, end);
-    0
+    tell(next_in(block, p, node), slip)
 }

@@ -4,16 +4,16 @@ use address::Size;
 use block::current_layout;
 use block::get_header;
 use runs::Query;
+use runs::Way;
 use runs::fit::Place;
-use runs::walk::walk_high;
-use runs::walk::walk_low;
+use runs::walk::walk;
 ghost use mathlib.Core.Path.{_≡_};
 ghost use mathlib.Core.Bool.{true};
 ghost use Prim.Native.Nat.{_≤_};
 ghost use lib.ListN.{length};
 ghost use Rattle.block.specs.Block.{current, contents, good};
 ghost use Rattle.search.specs.Search.{boundedEnd, window as windowOf, foundPlace, nextPlace};
-ghost use Rattle.search.specs.Steps.{Ready, partsOf, lowestOf, highestOf, nextQuery};
+ghost use Rattle.search.specs.Steps.{Ready, partsOf, firstOf, nextQuery};
 
 // Where a search with this end ends in a block with this limit: 0 means the limit, and a named end is cut to it.
 fn bounded_end(limit: Address, end: Address) -> Address
@@ -68,37 +68,21 @@ fn parts_of(block: &[u8]) -> Parts
     }
 }
 
-// The lowest eligible address of the block, with its run.
-fn lowest_in(block: &[u8], q: Query) -> Place
+// The first eligible address of the block in the order of the way, with its run.
+fn first_in(block: &[u8], q: Query, way: Way) -> Place
     requires { ⌜ Ready (now block) q ⌝ }
-    ensures { λ r. ⌜ r ≡ lowestOf (contents current (now (block .entry))) q ⌝ }
+    ensures { λ r. ⌜ r ≡ firstOf way (contents current (now (block .entry))) q ⌝ }
 {
     let p = parts_of(block);
     let middle = p.middle;
     let end = p.end;
-    walk_low(
+    walk(
         &block[80..middle],
         p.memory,
         &block[middle..end],
         p.taken,
         q,
-    )
-}
-
-// The highest eligible address of the block, with its run.
-fn highest_in(block: &[u8], q: Query) -> Place
-    requires { ⌜ Ready (now block) q ⌝ }
-    ensures { λ r. ⌜ r ≡ highestOf (contents current (now (block .entry))) q ⌝ }
-{
-    let p = parts_of(block);
-    let middle = p.middle;
-    let end = p.end;
-    walk_high(
-        &block[80..middle],
-        p.memory,
-        &block[middle..end],
-        p.taken,
-        q,
+        way,
     )
 }
 
@@ -111,9 +95,9 @@ pub fn find_in(block: &[u8], q: Query) -> Place
     let limit = h.settings.limit;
     let w = window(limit, q);
     if h.settings.direction == 1 {
-        return lowest_in(block, w);
+        return first_in(block, w, Way::Up);
     }
-    highest_in(block, w)
+    first_in(block, w, Way::Down)
 }
 
 // What next free asks: one address from `p` on.
@@ -134,5 +118,5 @@ pub fn next_in(block: &[u8], p: Address, node: u32) -> Place
     requires { ⌜ good current (now block) ≡ true ⌝ }
     ensures { λ r. ⌜ r ≡ nextPlace (contents current (now (block .entry))) (p .0) node ⌝ }
 {
-    lowest_in(block, next_query(p, node))
+    first_in(block, next_query(p, node), Way::Up)
 }

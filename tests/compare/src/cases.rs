@@ -1,4 +1,4 @@
-//! The twelve cases of document 01 and those of requests E1, E3 and E4, run
+//! The twelve cases of document 01 and those of requests E1, E3, E4 and E5, run
 //! through the archive.
 
 use crate::blocks::{get_u64, read_recs};
@@ -98,15 +98,14 @@ impl Case<'_> {
         for (direction, wanted) in [(BOTTOM_UP, bottom_up), (TOP_DOWN, top_down)] {
             self.limit(limit, direction);
             let before = self.block.clone();
-            let wanted = wanted.map(|a| (a, a + wish.size));
             self.asks(Call::Find(wish), wanted);
             self.asks(Call::Allocate(wish), wanted);
             self.block = before;
         }
     }
 
-    /// A call with a slip: its two numbers, or the refusal.
-    fn asks(&mut self, call: Call, wanted: Result<(u64, u64), u32>) {
+    /// A call with a slip.
+    fn asks(&mut self, call: Call, wanted: Answer) {
         let mut slip = vec![0x77; SLIP_LEN];
         let number = self.desk.call(&call, &mut self.block, &mut slip);
         let got = match number {
@@ -119,21 +118,15 @@ impl Case<'_> {
         }
     }
 
-    fn find(&mut self, size: u64, alignment: u64, wanted: Result<u64, u32>) {
-        self.asks(
-            Call::Find(wish(size, alignment)),
-            wanted.map(|a| (a, a + size)),
-        );
+    fn find(&mut self, size: u64, alignment: u64, wanted: Answer) {
+        self.asks(Call::Find(wish(size, alignment)), wanted);
     }
 
-    fn allocate(&mut self, size: u64, alignment: u64, wanted: Result<u64, u32>) {
-        self.asks(
-            Call::Allocate(wish(size, alignment)),
-            wanted.map(|a| (a, a + size)),
-        );
+    fn allocate(&mut self, size: u64, alignment: u64, wanted: Answer) {
+        self.asks(Call::Allocate(wish(size, alignment)), wanted);
     }
 
-    fn next_free(&mut self, from: u64, wanted: Result<(u64, u64), u32>) {
+    fn next_free(&mut self, from: u64, wanted: Answer) {
         let node = ANY_NODE;
         self.asks(Call::NextFree { from, node }, wanted);
     }
@@ -155,7 +148,8 @@ impl Case<'_> {
     }
 }
 
-type Answer = Result<u64, u32>;
+/// The two numbers of a slip, or the refusal.
+type Answer = Result<(u64, u64), u32>;
 
 fn wish(size: u64, alignment: u64) -> Wish {
     Wish {
@@ -168,7 +162,7 @@ fn wish(size: u64, alignment: u64) -> Wish {
 }
 
 pub fn run(desk: &mut Desk) -> u32 {
-    let cases: [fn(&mut Desk); 29] = [
+    let cases: [fn(&mut Desk); 33] = [
         printed,
         one,
         two_and_three,
@@ -198,6 +192,10 @@ pub fn run(desk: &mut Desk) -> u32 {
         converted_limits,
         old_blocks_refused,
         bad_old_blocks,
+        run_and_window,
+        run_and_what_is_behind,
+        run_before_the_call,
+        run_and_next_free,
     ];
     for (turn, case) in cases.iter().enumerate() {
         desk.turn = turn as u64;
@@ -233,6 +231,13 @@ fn printed_bytes(edition: u8, length: usize) -> Vec<u8> {
     block
 }
 
+/// The end of M, and an answer in a run up to it.
+const END: u64 = 0x20000;
+
+fn to_end(a: u64) -> Answer {
+    Ok((a, END))
+}
+
 fn m(desk: &mut Desk) -> Case<'_> {
     let mut c = Case::new(desk);
     c.add(0x10000, 0x10000, 0);
@@ -241,21 +246,21 @@ fn m(desk: &mut Desk) -> Case<'_> {
 
 fn one(desk: &mut Desk) {
     let mut c = m(desk);
-    c.find(0x1000, 0x1000, Ok(0x1F000));
+    c.find(0x1000, 0x1000, Ok((0x1F000, 0x20000)));
     c.turn(BOTTOM_UP);
-    c.find(0x1000, 0x1000, Ok(0x10000));
+    c.find(0x1000, 0x1000, Ok((0x10000, 0x20000)));
     c.turn(TOP_DOWN);
-    c.find(0x1000, 0x1000, Ok(0x1F000));
+    c.find(0x1000, 0x1000, Ok((0x1F000, 0x20000)));
 }
 
 fn two_and_three(desk: &mut Desk) {
     let mut c = m(desk);
-    c.allocate(0x1000, 0x1000, Ok(0x1F000));
-    c.allocate(0x1000, 0x1000, Ok(0x1E000));
+    c.allocate(0x1000, 0x1000, Ok((0x1F000, 0x20000)));
+    c.allocate(0x1000, 0x1000, Ok((0x1E000, 0x1F000)));
     c.table(&TAKEN, &[(0x1E000, 0x2000, 0, 0)]);
     c.range(Command::Free, 0x1E800, 0x800, 0);
     c.table(&TAKEN, &[(0x1E000, 0x800, 0, 0), (0x1F000, 0x1000, 0, 0)]);
-    c.find(0x800, 0x800, Ok(0x1E800));
+    c.find(0x800, 0x800, Ok((0x1E800, 0x1F000)));
 }
 
 fn four_tables(desk: &mut Desk) -> Case<'_> {
@@ -268,7 +273,7 @@ fn four(desk: &mut Desk) {
     let mut c = four_tables(desk);
     for direction in [TOP_DOWN, BOTTOM_UP] {
         c.turn(direction);
-        c.find(0x8000, 1, Ok(0x10000));
+        c.find(0x8000, 1, Ok((0x10000, 0x18000)));
         c.find(0x8001, 1, Err(5));
         c.allocate(0x8001, 1, Err(5));
     }
@@ -279,7 +284,7 @@ fn five(desk: &mut Desk) {
     c.add(0x1000, 0x1000, 0);
     c.turn(TOP_DOWN);
     c.find(0x3000, 1, Err(5));
-    c.find(0x1000, 1, Ok(0x1000));
+    c.find(0x1000, 1, Ok((0x1000, 0x2000)));
     c.find(0x1001, 1, Err(5));
 }
 
@@ -287,7 +292,7 @@ fn six(desk: &mut Desk) {
     let mut c = Case::new(desk);
     c.add(0, 0x2000, 0);
     c.turn(BOTTOM_UP);
-    c.find(0x1000, 0x1000, Ok(0x1000));
+    c.find(0x1000, 0x1000, Ok((0x1000, 0x2000)));
     c.find(0x1001, 0x1000, Err(5));
     c.next_free(0, Ok((0, 0x2000)));
 }
@@ -338,7 +343,7 @@ fn ten(desk: &mut Desk) {
     for (direction, a) in [(BOTTOM_UP, 0x10000), (TOP_DOWN, 0x18000)] {
         c.turn(direction);
         c.find(0x8001, 1, Err(5));
-        c.find(0x8000, 1, Ok(a));
+        c.find(0x8000, 1, Ok((a, a + 0x8000)));
     }
 }
 
@@ -385,7 +390,7 @@ fn eleven_taken(desk: &mut Desk) {
     c.add(0x11000, 0x1000, 0);
     c.allocate(0x1000, 1, Err(6));
     c.turn(BOTTOM_UP);
-    c.allocate(0x1000, 1, Ok(0x11000));
+    c.allocate(0x1000, 1, Ok((0x11000, 0x12000)));
     c.count(&TAKEN, most - 1);
 }
 
@@ -511,15 +516,25 @@ fn limit_and_named_end(desk: &mut Desk) {
         end,
         ..wish(size, 1)
     };
-    c.within(limit, named(0x1000, 0x17FFF), Ok(0x10000), Ok(0x16FFF));
+    c.within(
+        limit,
+        named(0x1000, 0x17FFF),
+        to_end(0x10000),
+        to_end(0x16FFF),
+    );
     c.within(limit, named(0x8000, 0x17FFF), Err(5), Err(5));
     for end in [0, limit, limit + 1, 0x20000, u64::MAX] {
-        c.within(limit, named(0x1000, end), Ok(0x10000), Ok(0x17000));
-        c.within(limit, named(0x8000, end), Ok(0x10000), Ok(0x10000));
+        c.within(limit, named(0x1000, end), to_end(0x10000), to_end(0x17000));
+        c.within(limit, named(0x8000, end), to_end(0x10000), to_end(0x10000));
         c.within(limit, named(0x8001, end), Err(5), Err(5));
     }
     // Where there is no limit the end is as named.
-    c.within(u64::MAX, named(0x1000, 0x20000), Ok(0x10000), Ok(0x1F000));
+    c.within(
+        u64::MAX,
+        named(0x1000, 0x20000),
+        to_end(0x10000),
+        to_end(0x1F000),
+    );
 }
 
 /// A limit of 0, below 4096, and on both sides of the lowest start.
@@ -532,7 +547,7 @@ fn limit_and_lowest_start(desk: &mut Desk) {
             c.within(limit, named, Err(5), Err(5));
         }
         let wanted = match end {
-            0 | 4097.. => Ok(4096),
+            0 | 4097.. => to_end(4096),
             _ => Err(5),
         };
         c.within(4097, named, wanted, wanted);
@@ -551,7 +566,7 @@ fn limit_and_start(desk: &mut Desk) {
             ..wish(1, 1)
         };
         let last = limit - 1;
-        c.within(limit, from(last), Ok(last), Ok(last));
+        c.within(limit, from(last), to_end(last), to_end(last));
         let two = Wish {
             size: 2,
             ..from(last)
@@ -571,12 +586,12 @@ fn limit_and_allocations(desk: &mut Desk) {
         end: 0x20000,
         ..wish(0x1000, 0x1000)
     });
-    for wanted in [Ok((0x11000, 0x12000)), Ok((0x10000, 0x11000)), Err(5)] {
+    for wanted in [to_end(0x11000), Ok((0x10000, 0x11000)), Err(5)] {
         c.asks(page.clone(), wanted);
     }
     c.table(&TAKEN, &[(0x10000, 0x2000, 0, 0)]);
     c.limit(0x13000, TOP_DOWN);
-    c.asks(page, Ok((0x12000, 0x13000)));
+    c.asks(page, to_end(0x12000));
 }
 
 /// Next free takes no notice of the limit.
@@ -715,4 +730,131 @@ fn bad_old_blocks(desk: &mut Desk) {
         c.convert(&bad, 1);
     }
     c.convert(&old, 0);
+}
+
+/// The window's end below, at and above the run's, which neither a named end nor the
+/// limit cuts.
+fn run_and_window(desk: &mut Desk) {
+    let mut c = m(desk);
+    for (end, highest) in [
+        (0x10010, 0x10000),
+        (END - 1, END - 0x11),
+        (END, END - 0x10),
+        (END + 1, END - 0x10),
+        (u64::MAX, END - 0x10),
+    ] {
+        let named = Wish {
+            end,
+            ..wish(0x10, 1)
+        };
+        let answers = (to_end(0x10000), to_end(highest));
+        for limit in [end, END, END + 1, u64::MAX] {
+            if limit >= end {
+                c.within(limit, named, answers.0, answers.1);
+            }
+        }
+        for named_end in [0, u64::MAX] {
+            let above = Wish {
+                end: named_end,
+                ..named
+            };
+            c.within(end, above, answers.0, answers.1);
+        }
+    }
+    // A start inside the run, and a window that is exactly the size.
+    let inside = Wish {
+        start: 0x12345,
+        end: 0x12346,
+        ..wish(1, 1)
+    };
+    c.within(u64::MAX, inside, to_end(0x12345), to_end(0x12345));
+}
+
+/// A run ends at what is taken, at another node, at no-map memory and where memory
+/// ends, also where what is behind that is taken.
+fn run_and_what_is_behind(desk: &mut Desk) {
+    let mut c = Case::new(desk);
+    c.add(0x10000, 0x2000, 0);
+    c.add(0x12000, 0x3000, 1);
+    c.range(Command::Reserve, 0x11000, 0x800, 0);
+    c.range(Command::Mark, 0x13000, 0x1000, 0);
+    c.range(Command::Reserve, 0x15000, 0x1000, 0);
+    for (from, to) in [
+        (0x10000, 0x11000),
+        (0x11800, 0x12000),
+        (0x12000, 0x13000),
+        (0x14000, 0x15000),
+    ] {
+        for end in [from + 0x10, to - 1, to, to + 1] {
+            let ask = Wish {
+                start: from,
+                end,
+                ..wish(0x10, 1)
+            };
+            let highest = end.min(to) - 0x10;
+            c.within(u64::MAX, ask, Ok((from, to)), Ok((highest, to)));
+            c.within(
+                end,
+                Wish { end: 0, ..ask },
+                Ok((from, to)),
+                Ok((highest, to)),
+            );
+        }
+    }
+    // The last addresses.
+    let page = u64::MAX - 4095;
+    let mut c = Case::new(desk);
+    c.add(page, 0x1000, 0);
+    let all = Ok((page, u64::MAX));
+    c.within(u64::MAX, wish(0xFFF, 1), all, all);
+    c.within(u64::MAX - 1, wish(0xFFE, 1), all, all);
+}
+
+/// Allocate reports the run as it was, the last of it too.
+fn run_before_the_call(desk: &mut Desk) {
+    let mut c = m(desk);
+    c.turn(BOTTOM_UP);
+    for i in 0..4 {
+        c.allocate(0x4000, 0x1000, to_end(0x10000 + i * 0x4000));
+    }
+    c.allocate(1, 1, Err(5));
+    let mut c = m(desk);
+    for i in 0..4 {
+        let end = END - i * 0x4000;
+        c.allocate(0x4000, 0x1000, Ok((end - 0x4000, end)));
+    }
+    c.allocate(1, 1, Err(5));
+    // From the middle of a run, which it cuts in two.
+    let mut c = m(desk);
+    let middle = Wish {
+        start: 0x18000,
+        end: 0x19000,
+        ..wish(0x1000, 1)
+    };
+    c.asks(Call::Allocate(middle), to_end(0x18000));
+    c.next_free(0, Ok((0x10000, 0x18000)));
+    c.next_free(0x18000, to_end(0x19000));
+}
+
+/// Next free from the second number gives the run behind, whatever was taken of this
+/// one.
+fn run_and_next_free(desk: &mut Desk) {
+    let runs = [(0x10000, 0x18000), (0x19000, END), (0x30000, 0x31000)];
+    for part in [1, 0x1000, u64::MAX] {
+        for direction in [TOP_DOWN, BOTTOM_UP] {
+            let mut c = four_tables(desk);
+            c.add(0x30000, 0x1000, 0);
+            c.turn(direction);
+            for (i, (from, to)) in runs.into_iter().enumerate() {
+                let size = part.min(to - from);
+                let ask = Wish {
+                    start: from,
+                    end: from + size,
+                    ..wish(size, 1)
+                };
+                c.asks(Call::Allocate(ask), Ok((from, to)));
+                c.next_free(to, runs.get(i + 1).copied().ok_or(5));
+            }
+        }
+    }
 }

@@ -4,6 +4,7 @@
 use crate::blocks::{get_u32, get_u64, read_recs};
 use crate::call::{Call, Command};
 use crate::limits::Sides;
+use crate::runs::Runs;
 use model::layout::{Body, EDITION_1, MEMORY, REPORT_ENTRY_LEN, TAKEN};
 use std::sync::atomic::{AtomicU64, Ordering};
 use std::sync::Mutex;
@@ -149,6 +150,7 @@ pub struct Desk {
     pub without_model: bool,
     pairs: [[u64; NUMBERS]; Command::ALL.len()],
     pub sides: Sides,
+    pub runs: Runs,
     block_room: Lent,
     slip_room: Lent,
     source_room: Lent,
@@ -164,6 +166,7 @@ impl Desk {
             without_model: false,
             pairs: [[0; NUMBERS]; Command::ALL.len()],
             sides: Sides::default(),
+            runs: Runs::default(),
             block_room: Lent::new(),
             slip_room: Lent::new(),
             source_room: Lent::new(),
@@ -257,6 +260,7 @@ impl Desk {
         }
         self.pairs[command as usize][got as usize] += 1;
         self.sides.note(call, &before, got, slip);
+        self.runs.note(call, &before, got, slip);
         got
     }
 

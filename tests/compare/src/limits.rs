@@ -33,7 +33,7 @@ fn can_be(start: usize, end: usize, answer: usize) -> bool {
 pub struct Sides {
     /// By find or allocate, limit and start, named end, answer.
     met: [[[[u64; 2]; 4]; 4]; 2],
-    /// Answers that end at the limit.
+    /// Answers whose size ends at the limit.
     to_the_limit: u64,
     /// Named ends above the limit, where a block without one answers otherwise.
     decided: u64,
@@ -64,7 +64,7 @@ impl Sides {
         };
         let whose = usize::from(call.command() == Command::Allocate);
         self.met[whose][start][end][usize::from(number == 5)] += 1;
-        self.to_the_limit += u64::from(number == 0 && get_u64(slip, 8) == limit);
+        self.to_the_limit += u64::from(number == 0 && get_u64(slip, 0) + wish.size == limit);
         self.decided += u64::from(end == 3 && decides(before, wish));
     }
 

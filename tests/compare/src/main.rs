@@ -13,6 +13,7 @@ mod numbers;
 mod orders;
 mod reports;
 mod rng;
+mod runs;
 
 use blocks::Damage;
 use call::Command;
@@ -130,7 +131,7 @@ fn main() {
             "cases" => {
                 let cases = cases::run(desk);
                 println!(
-                    "cases: all {cases} of document 01 and those of requests E1, E3 and E4, {} calls",
+                    "cases: all {cases} of document 01 and those of requests E1, E3, E4 and E5, {} calls",
                     desk.calls
                 );
             }
@@ -158,7 +159,7 @@ fn main() {
         return;
     }
     numbers_reached(desk);
-    limit_met(desk);
+    sides_met(desk);
     println!("compare: {} calls, all equal", desk.calls);
 }
 
@@ -192,14 +193,16 @@ fn numbers_reached(desk: &Desk) {
     );
 }
 
-/// Searches on every side of the limit were made.
-fn limit_met(desk: &Desk) {
+/// Searches on every side of the limit and of a run's end were made.
+fn sides_met(desk: &Desk) {
     if !Command::Find.is_there() || !Command::Allocate.is_there() {
         return;
     }
-    match desk.sides.told() {
-        Ok(counts) => println!("limit: {counts}"),
-        Err(message) => stop(&message),
+    for (what, told) in [("limit", desk.sides.told()), ("runs", desk.runs.told())] {
+        match told {
+            Ok(counts) => println!("{what}: {counts}"),
+            Err(message) => stop(&format!("{what}: {message}")),
+        }
     }
 }
 
@@ -488,7 +491,10 @@ fn walks(desk: &mut Desk, calls: u64) {
             let call = near.call(rng, command, 3);
             let mut slip = slip(rng, 2);
             let mut next = block.clone();
-            desk.call(&call, &mut next, &mut slip);
+            let number = desk.call(&call, &mut next, &mut slip);
+            if number == 0 && command == Command::Allocate {
+                runs::follow(desk, rng, &mut next, &slip);
+            }
             // Fresh, conversions, coarse trims and those of intakes would end most
             // walks: try them on a copy.
             let keep = match call {

@@ -91,6 +91,14 @@ impl Near {
         self.limit.wrapping_add(rng.below(3)).wrapping_sub(1)
     }
 
+    /// A start in a free run, and the run's end or an address beside it.
+    fn at_a_run_end(&self, rng: &mut Rng) -> (u64, u64) {
+        let run = self.runs[rng.index(self.runs.len())];
+        let (lo, hi) = (run.lo as u64, run.hi as u64);
+        let end = hi.wrapping_add(rng.below(3)).wrapping_sub(1);
+        (lo + rng.below(hi - lo), end)
+    }
+
     /// A base and a size for a table command.
     pub fn range(&self, rng: &mut Rng) -> (u64, u64) {
         let base = self.address(rng);
@@ -212,6 +220,10 @@ impl Near {
                 .wrapping_add(rng.below(3))
                 .wrapping_sub(1),
             _ => self.address(rng),
+        };
+        let (start, end) = match rng.below(8) {
+            0 if !self.runs.is_empty() => self.at_a_run_end(rng),
+            _ => (start, end),
         };
         Wish {
             size,

@@ -1,6 +1,7 @@
 //! A second program for the memory tables of document 01, the E820 intake of
-//! request E1, the limit of request E3 and the larger block of request E4, written
-//! from those pages alone, to be compared with the library call by call.
+//! request E1, the limit of request E3, the larger block of request E4 and the
+//! run's end of request E5, written from those pages alone, to be compared with the
+//! library call by call.
 //!
 //! It shares no idea with a program that walks tables of records: a table is a
 //! map from boundary points to states, a search looks at whole free runs and
@@ -147,15 +148,16 @@ pub fn allocate(block: &mut [u8], wish: &Wish, slip: &mut [u8]) -> u32 {
         return BAD_SLIP;
     }
     let answer = good(block).and_then(|mut board| {
-        let (lo, hi) = place(&board, wish)?;
-        board.taken.paint(lo, hi, |_| true);
+        let (a, end) = place(&board, wish)?;
+        board.taken.paint(a, a + u128::from(wish.size), |_| true);
         block.copy_from_slice(&board.write()?);
-        Ok((lo, hi))
+        Ok((a, end))
     });
     tell(slip, answer)
 }
 
-/// The address and its end that the rules of find fix, or the refusal.
+/// The address that the rules of find fix and the end of the free run that holds
+/// it, or the refusal.
 fn place(board: &Board, wish: &Wish) -> Result<(u128, u128), u32> {
     let wanted = asked_for(wish.node)?;
     let step = step(wish.alignment)?;
@@ -181,13 +183,14 @@ fn place(board: &Board, wish: &Wish) -> Result<(u128, u128), u32> {
             let hi = run.hi.min(end);
             let least = lo.div_ceil(step);
             let greatest = hi.checked_sub(size)? / step;
-            (least <= greatest).then_some((least * step, greatest * step))
+            (least <= greatest).then_some((least * step, greatest * step, run.hi))
         });
+    // No two runs offer the same address, so the run's end decides nothing.
     let chosen = match board.direction {
-        Direction::BottomUp => offers.map(|(lowest, _)| lowest).min(),
-        Direction::TopDown => offers.map(|(_, highest)| highest).max(),
+        Direction::BottomUp => offers.map(|(lowest, _, end)| (lowest, end)).min(),
+        Direction::TopDown => offers.map(|(_, highest, end)| (highest, end)).max(),
     };
-    chosen.map(|a| (a, a + size)).ok_or(NO_ADDRESS)
+    chosen.ok_or(NO_ADDRESS)
 }
 
 fn good(block: &[u8]) -> Result<Board, u32> {

@@ -146,6 +146,16 @@ impl Toy {
         (!self.taken[i] && tag.0 == 0).then_some(tag)
     }
 
+    /// The end of the free run that holds a free address: upwards while free and of
+    /// the same tag.
+    fn run_end(&self, a: u128) -> u64 {
+        let mut end = a;
+        while self.free_tag(end) == self.free_tag(a) {
+            end += 1;
+        }
+        end as u64
+    }
+
     fn eligible(&self, a: u128, wish: &Wish) -> bool {
         let size = u128::from(wish.size);
         let Some(tag) = self.free_tag(a) else {
@@ -180,8 +190,8 @@ impl Toy {
         } else {
             fits.next_back()
         };
-        let a = a.ok_or(5u32)? as u64;
-        Ok((a, a + wish.size))
+        let a = a.ok_or(5u32)?;
+        Ok((a as u64, self.run_end(a)))
     }
 
     fn next_free(&self, from: u64, node: u32) -> Result<(u64, u64), u32> {
@@ -197,11 +207,7 @@ impl Toy {
                         .is_some_and(|tag| node == ANY || node == tag.1)
             })
             .ok_or(5u32)?;
-        let mut end = a;
-        while self.free_tag(end) == self.free_tag(a) {
-            end += 1;
-        }
-        Ok((a as u64, end as u64))
+        Ok((a as u64, self.run_end(a)))
     }
 
     /// An address stays when its whole aligned cell is inside its record.
@@ -681,6 +687,8 @@ fn every_small_limit() {
     let mut searches = 0;
     // Named ends above the limit at which some address would fit without it.
     let mut cut = 0;
+    // Answers whose run ends behind the limit, or behind the named end.
+    let mut behind = [0; 2];
     for memory in 0..1 << WIDE {
         let mut toy = Toy::new(FIRST.into(), WIDE);
         for i in 0..WIDE {
@@ -703,13 +711,18 @@ fn every_small_limit() {
                                 end,
                                 node: ANY,
                             };
-                            let (number, slip_wanted) = slip_of(toy.find(&wish));
+                            let found = toy.find(&wish);
+                            let (number, slip_wanted) = slip_of(found);
                             let mut slip = [9; 16];
                             assert_eq!(model::find(&block, &wish, &mut slip), number);
                             assert_eq!(slip[..], slip_wanted[..]);
                             searches += 1;
-                            if end > limit && toy.find(&wish) != unlimited.find(&wish) {
+                            if end > limit && found != unlimited.find(&wish) {
                                 cut += 1;
+                            }
+                            if let Ok((_, run_end)) = found {
+                                behind[0] += usize::from(run_end > limit);
+                                behind[1] += usize::from(end != 0 && run_end > end);
                             }
                         }
                     }
@@ -721,6 +734,10 @@ fn every_small_limit() {
     assert!(
         cut > searches / 20,
         "the limit cut only {cut} of {searches}"
+    );
+    assert!(
+        behind.iter().all(|&runs| runs > searches / 200),
+        "only {behind:?} runs of {searches} end behind limit or named end"
     );
 }
 

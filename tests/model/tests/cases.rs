@@ -1,7 +1,8 @@
 //! Document 01's own examples: the printed block, the twelve cases, the table
 //! of numbers on both sides, and the slips already paid for, on the block of
-//! request E4. Then the E820 intake of request E1, the limit of request E3 and
-//! the conversion of request E4, each rule on both sides of its edge.
+//! request E4. Then the E820 intake of request E1, the limit of request E3, the
+//! conversion of request E4 and the run's end of request E5, each rule on both
+//! sides of its edge.
 
 use model::layout::*;
 use model::Wish;
@@ -61,7 +62,7 @@ fn find(block: &[u8], wish: &Wish) -> Result<(u64, u64), u32> {
 
 fn find_address(block: &[u8], size: u64, alignment: u64) -> Result<u64, u32> {
     let (a, end) = find(block, &wish(size, alignment))?;
-    assert_eq!(u128::from(end), u128::from(a) + u128::from(size));
+    assert_eq!(next_free(block, a, ANY_NODE), Ok((a, end)));
     Ok(a)
 }
 
@@ -178,15 +179,10 @@ fn printed_block() {
 
 #[test]
 fn case_01_both_directions() {
-    assert_eq!(
-        find_address(&turned(m(), BOTTOM_UP), 0x1000, 0x1000),
-        Ok(0x10000)
-    );
-    assert_eq!(
-        find_address(&turned(m(), TOP_DOWN), 0x1000, 0x1000),
-        Ok(0x1F000)
-    );
-    assert_eq!(find(&m(), &wish(0x1000, 0x1000)), Ok((0x1F000, 0x20000)));
+    let ask = wish(0x1000, 0x1000);
+    assert_eq!(find(&turned(m(), BOTTOM_UP), &ask), Ok((0x10000, 0x20000)));
+    assert_eq!(find(&turned(m(), TOP_DOWN), &ask), Ok((0x1F000, 0x20000)));
+    assert_eq!(find(&m(), &ask), Ok((0x1F000, 0x20000)));
 }
 
 #[test]
@@ -1178,18 +1174,24 @@ fn intake_in_every_order() {
 
 // Request E3: the limit binds.
 
-/// What find and allocate give in both directions, bottom-up first.
-fn both(ranges: &[(u64, u64)], limit: u64, wish: &Wish) -> [Result<u64, u32>; 2] {
+/// What find gives on a block in both directions, bottom-up first: the run's end is
+/// that of next free there, and allocate gives the same.
+fn both_runs(block: &[u8], limit: u64, wish: &Wish) -> [Result<(u64, u64), u32>; 2] {
     [BOTTOM_UP, TOP_DOWN].map(|direction| {
-        let mut block = memory(ranges);
+        let mut block = block.to_vec();
         assert_eq!(model::set(&mut block, limit, direction), 0);
         let found = find(&block, wish);
+        if let Ok((a, end)) = found {
+            assert_eq!(next_free(&block, a, ANY_NODE), Ok((a, end)));
+        }
         assert_eq!(allocate(&mut block, wish), found);
-        found.map(|(a, end)| {
-            assert_eq!(end, a + wish.size);
-            a
-        })
+        found
     })
+}
+
+/// The addresses of these, with memory in the ranges and nothing taken.
+fn both(ranges: &[(u64, u64)], limit: u64, wish: &Wish) -> [Result<u64, u32>; 2] {
+    both_runs(&memory(ranges), limit, wish).map(|found| found.map(|(a, _)| a))
 }
 
 const M: [(u64, u64); 1] = [(0x10000, 0x20000)];
@@ -1455,4 +1457,193 @@ fn no_other_command_takes_an_old_block() {
     assert_eq!(all_commands(&printed()), [0; 12]);
     assert_eq!(all_commands(&printed_old()), [1; 12]);
     assert_eq!(model::fresh(&mut printed_old()), 1);
+}
+
+// Request E5: the second number is the end of the free run.
+
+#[test]
+fn run_end_and_the_window() {
+    // Named ends below, at and above the run's end; the same as limits.
+    for (end, highest) in [
+        (0x10010, 0x10000),
+        (0x1FFFF, 0x1FFEF),
+        (0x20000, 0x1FFF0),
+        (0x20001, 0x1FFF0),
+        (u64::MAX, 0x1FFF0),
+    ] {
+        let wanted = [Ok((0x10000, 0x20000)), Ok((highest, 0x20000))];
+        let named = Wish {
+            end,
+            ..wish(0x10, 1)
+        };
+        assert_eq!(both_runs(&m(), u64::MAX, &named), wanted);
+        assert_eq!(both_runs(&m(), end, &wish(0x10, 1)), wanted);
+        // Of both the smaller makes the window, and neither cuts the run.
+        for other in [0x20000, 0x20001, u64::MAX] {
+            if other >= end {
+                assert_eq!(both_runs(&m(), other, &named), wanted);
+                let named = Wish {
+                    end: other,
+                    ..named
+                };
+                assert_eq!(both_runs(&m(), end, &named), wanted);
+            }
+        }
+    }
+    // A start inside the run; a window that is exactly the size.
+    let inside = Wish {
+        start: 0x12345,
+        end: 0x12346,
+        ..wish(1, 1)
+    };
+    assert_eq!(
+        both_runs(&m(), u64::MAX, &inside),
+        [Ok((0x12345, 0x20000)); 2]
+    );
+}
+
+#[test]
+fn run_end_at_what_is_taken() {
+    // Case 4's tables: the run ends where the next taken record begins, and the
+    // one behind it with the memory.
+    let block = case_4_tables();
+    let with = |start, end| {
+        let named = Wish {
+            start,
+            end,
+            ..wish(0x800, 0x800)
+        };
+        both_runs(&block, u64::MAX, &named)
+    };
+    assert_eq!(with(0, 0), [Ok((0x10000, 0x18000)), Ok((0x1F800, 0x20000))]);
+    for end in [0x17FFF, 0x18000, 0x18001, 0x19000, 0x197FF] {
+        let highest = if end < 0x18000 { 0x17000 } else { 0x17800 };
+        let wanted = [Ok((0x10000, 0x18000)), Ok((highest, 0x18000))];
+        assert_eq!(with(0, end), wanted);
+    }
+    for start in [0x17801, 0x18000, 0x19000] {
+        assert_eq!(with(start, 0x19800), [Ok((0x19000, 0x20000)); 2]);
+    }
+    // What is taken beside the memory cuts nothing off.
+    let mut block = m();
+    assert_eq!(model::reserve(&mut block, 0x20000, 0x1000), 0);
+    assert_eq!(model::reserve(&mut block, 0xF000, 0x1000), 0);
+    assert_eq!(
+        both_runs(&block, u64::MAX, &wish(0x10000, 1)),
+        [Ok((0x10000, 0x20000)); 2]
+    );
+}
+
+#[test]
+fn run_end_at_tag_borders() {
+    // Node 0, node 1, no-map of node 1, node 1, each 0x1000 addresses.
+    let mut block = memory(&[(0x10000, 0x11000)]);
+    assert_eq!(model::add(&mut block, 0x11000, 0x3000, 0, 1), 0);
+    assert_eq!(model::mark(&mut block, 0x12000, 0x1000), 0);
+    for (start, run_end) in [(0x10000, 0x11000), (0x11000, 0x12000), (0x13000, 0x14000)] {
+        for end in [run_end - 0x800, run_end, run_end + 1] {
+            for node in [ANY_NODE, u32::from(start > 0x10000)] {
+                let ask = Wish {
+                    start,
+                    end,
+                    node,
+                    ..wish(0x800, 0x800)
+                };
+                let highest = if end < run_end { start } else { start + 0x800 };
+                assert_eq!(
+                    both_runs(&block, u64::MAX, &ask),
+                    [Ok((start, run_end)), Ok((highest, run_end))]
+                );
+            }
+        }
+    }
+    // Unmarked, the last two runs are one.
+    assert_eq!(model::unmark(&mut block, 0x12000, 0x1000), 0);
+    let node_1 = Wish {
+        node: 1,
+        ..wish(0x1000, 0x1000)
+    };
+    assert_eq!(
+        both_runs(&block, u64::MAX, &node_1),
+        [Ok((0x11000, 0x14000)), Ok((0x13000, 0x14000))]
+    );
+}
+
+#[test]
+fn run_end_at_the_top() {
+    let page = u64::MAX - 4095;
+    let block = memory(&[(page, u64::MAX)]);
+    for size in [1, 0xFFE, 0xFFF] {
+        assert_eq!(
+            both_runs(&block, u64::MAX, &wish(size, 1)),
+            [Ok((page, u64::MAX)), Ok((u64::MAX - size, u64::MAX))]
+        );
+    }
+    assert_eq!(
+        both_runs(&block, u64::MAX - 1, &wish(0xFFE, 1)),
+        [Ok((page, u64::MAX)); 2]
+    );
+}
+
+#[test]
+fn run_as_it_was_before_the_call() {
+    let page = wish(0x1000, 0x1000);
+    // Bottom-up the run keeps its end, up to the allocation that takes the last of it.
+    let mut block = turned(m(), BOTTOM_UP);
+    for i in 0..16 {
+        let wanted = Ok((0x10000 + i * 0x1000, 0x20000));
+        assert_eq!(find(&block, &page), wanted);
+        assert_eq!(allocate(&mut block, &page), wanted);
+    }
+    assert_eq!(allocate(&mut block, &page), Err(5));
+    // Top-down each leaves a shorter one.
+    let mut block = turned(m(), TOP_DOWN);
+    for i in 0..16 {
+        let end = 0x20000 - i * 0x1000;
+        assert_eq!(allocate(&mut block, &page), Ok((end - 0x1000, end)));
+    }
+    assert_eq!(allocate(&mut block, &page), Err(5));
+    // From the middle: the run before the call, which the call cuts in two.
+    for direction in [TOP_DOWN, BOTTOM_UP] {
+        let mut block = turned(m(), direction);
+        let middle = Wish {
+            start: 0x18000,
+            end: 0x19000,
+            ..page
+        };
+        assert_eq!(allocate(&mut block, &middle), Ok((0x18000, 0x20000)));
+        assert_eq!(next_free(&block, 0, ANY_NODE), Ok((0x10000, 0x18000)));
+        assert_eq!(next_free(&block, 0x18000, ANY_NODE), Ok((0x19000, 0x20000)));
+    }
+}
+
+#[test]
+fn next_free_goes_on_from_the_run_end() {
+    // Runs up to what is taken, up to another node, of that node, and one apart.
+    let mut start = case_4_tables();
+    assert_eq!(model::add(&mut start, 0x20000, 0x1000, 0, 1), 0);
+    assert_eq!(model::add(&mut start, 0x30000, 0x1000, 0, 0), 0);
+    let runs = [
+        (0x10000, 0x18000),
+        (0x19000, 0x20000),
+        (0x20000, 0x21000),
+        (0x30000, 0x31000),
+    ];
+    for (i, (from, to)) in runs.into_iter().enumerate() {
+        for direction in [TOP_DOWN, BOTTOM_UP] {
+            for size in [0x10, to - from] {
+                let mut block = turned(start.clone(), direction);
+                let ask = Wish {
+                    start: from,
+                    end: from + size,
+                    ..wish(size, 1)
+                };
+                let (a, end) = allocate(&mut block, &ask).unwrap();
+                assert_eq!((a, end), (from, to));
+                let next = runs.get(i + 1).copied().ok_or(5);
+                assert_eq!(next_free(&block, end, ANY_NODE), next);
+                assert_eq!(next_free(&start, end, ANY_NODE), next);
+            }
+        }
+    }
 }

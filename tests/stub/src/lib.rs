@@ -368,7 +368,8 @@ struct Ask {
     takes: bool,
 }
 
-fn search(block: &Block, ask: &Ask) -> Option<u64> {
+/// The address that find gives, and the end of the gap that holds it.
+fn search(block: &Block, ask: &Ask) -> Option<(u64, u64)> {
     // mutant 15: start is not raised to 4096
     let lowest = if mutant(15) { 0 } else { 4096 };
     let start = ask.start.max(lowest);
@@ -421,15 +422,26 @@ fn search(block: &Block, ask: &Ask) -> Option<u64> {
         if !bottom_up {
             gaps.reverse();
         }
-        for (lo, hi) in gaps {
+        for (lo, run_end) in gaps {
             let lo = lo.max(start);
-            let hi = hi.min(end);
+            let hi = run_end.min(end);
+            // mutant 88: bottom-up the run's end is cut to the window
+            // mutant 89: top-down the run's end is cut to the window
+            // mutant 90: the run's end is cut to the limit
+            // mutant 91: find and allocate answer the end of the record, not of the run
+            let run_end = match () {
+                _ if mutant(88) && bottom_up => hi,
+                _ if mutant(89) && !bottom_up => hi,
+                _ if mutant(90) => run_end.min(block.limit),
+                _ if mutant(91) => rec.end,
+                _ => run_end,
+            };
             if bottom_up {
                 let Some(a) = round_up(lo, ask.alignment) else {
                     continue;
                 };
                 if a < hi && hi - a >= ask.size {
-                    return Some(a);
+                    return Some((a, run_end));
                 }
             } else {
                 // mutant 19: end minus size without asking which is smaller
@@ -438,7 +450,7 @@ fn search(block: &Block, ask: &Ask) -> Option<u64> {
                 }
                 let a = hi.wrapping_sub(ask.size) & !(ask.alignment - 1);
                 if a >= lo && lo < hi {
-                    return Some(a);
+                    return Some((a, run_end));
                 }
             }
         }
@@ -446,8 +458,8 @@ fn search(block: &Block, ask: &Ask) -> Option<u64> {
     None
 }
 
-/// The checks of find, in their order, up to the address.
-fn look(block: &[u8], ask: &Ask) -> Result<(Block, u64), u32> {
+/// The checks of find, in their order, up to the address and its run's end.
+fn look(block: &[u8], ask: &Ask) -> Result<(Block, u64, u64), u32> {
     let block = parse(block).ok_or(1u32)?;
     if ask.node > 63 && ask.node != ANY {
         return Err(2);
@@ -462,8 +474,13 @@ fn look(block: &[u8], ask: &Ask) -> Result<(Block, u64), u32> {
     if ask.size == 0 {
         return Err(4);
     }
-    let a = search(&block, ask).ok_or(5u32)?;
-    Ok((block, a))
+    let (a, run_end) = search(&block, ask).ok_or(5u32)?;
+    // mutant 92: find and allocate answer a + size, not the run's end
+    // mutant 93: allocate answers a + size, not the run's end
+    if mutant(92) || mutant(93) && ask.takes {
+        return Ok((block, a, a + ask.size));
+    }
+    Ok((block, a, run_end))
 }
 
 fn tell(slip: &mut [u8], answer: Result<(u64, u64), u32>) -> u32 {
@@ -757,6 +774,11 @@ pub unsafe extern "C" fn memblock_next_free(
     if node > 63 && node != ANY {
         return tell(slip, Err(2));
     }
+    tell(slip, next_run(&tables, from, node).ok_or(5))
+}
+
+/// The lowest free address at or above one, and the end of its gap.
+fn next_run(tables: &Block, from: u64, node: u32) -> Option<(u64, u64)> {
     for rec in walked(&tables.memory).iter().filter(|r| offered(r, node)) {
         for (lo, hi) in gaps(rec, &tables.taken) {
             if hi <= from {
@@ -765,13 +787,13 @@ pub unsafe extern "C" fn memblock_next_free(
             let a = lo.max(from);
             // mutant 28: an address of 0 means failure
             if mutant(28) && a == 0 {
-                return tell(slip, Err(5));
+                return None;
             }
             // mutant 29: next free answers the end of the record, not of the run
             let end = if mutant(29) { rec.end } else { hi };
             // mutant 67: next free gives nothing above the limit
             if mutant(67) && tables.limit <= a {
-                return tell(slip, Err(5));
+                return None;
             }
             // mutant 68: next free ends a run at the limit
             let end = if mutant(68) {
@@ -779,10 +801,10 @@ pub unsafe extern "C" fn memblock_next_free(
             } else {
                 end
             };
-            return tell(slip, Ok((a, end)));
+            return Some((a, end));
         }
     }
-    tell(slip, Err(5))
+    None
 }
 
 /// # Safety
@@ -810,7 +832,7 @@ pub unsafe extern "C" fn memblock_find(
         node,
         takes: false,
     };
-    let answer = look(lent(block, len), &ask).map(|(_, a)| (a, a.wrapping_add(size)));
+    let answer = look(lent(block, len), &ask).map(|(_, a, end)| (a, end));
     // mutant 30: find writes one byte past the slip
     if mutant(30) && answer.is_ok() {
         slip.add(16).write(0);
@@ -853,15 +875,20 @@ pub unsafe extern "C" fn memblock_allocate(
     };
     let b = lent_mut(block, len);
     let slip = lent_mut(slip, slip_len);
-    let (tables, a) = match look(b, &ask) {
+    let (tables, a, mut end) = match look(b, &ask) {
         Ok(found) => found,
         Err(number) => return tell(slip, Err(number)),
     };
     let pieces = fill(&tables.taken, a, cut(a, size), 0, 0);
     let number = store(b, 1, &pieces);
+    // mutant 94: allocate looks for the run's end after the call
+    if mutant(94) && number == 0 {
+        let after = parse(b).and_then(|tables| next_run(&tables, a, ANY));
+        end = after.map_or(a, |run| run.1);
+    }
     // mutant 33: allocate shows the address found when it refuses 6
     if number == 0 || mutant(33) {
-        tell(slip, Ok((a, a.wrapping_add(size))));
+        tell(slip, Ok((a, end)));
     } else {
         tell(slip, Err(number));
     }

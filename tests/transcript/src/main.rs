@@ -123,6 +123,10 @@ struct Replay {
     /// How often the two blocks were compared, and conversions that were done.
     same: u32,
     converted: u32,
+    /// The run's end of the allocation just done, and whether next free went on from
+    /// such an end.
+    run_end: Option<u64>,
+    went_on: bool,
     tables: BTreeSet<String>,
     ended: bool,
 }
@@ -144,6 +148,8 @@ impl Replay {
             reserved: Vec::new(),
             same: 0,
             converted: 0,
+            run_end: None,
+            went_on: false,
             tables: BTreeSet::new(),
             ended: false,
         }
@@ -328,8 +334,8 @@ impl Replay {
             "{function}({arguments}) = {number:#x} sum {:#x}",
             sum(buffer)
         );
+        let half = |at| u64::from_le_bytes(slip[at..at + 8].try_into().expect("8 bytes"));
         if slip_length == Some(SLIP_LEN) {
-            let half = |at| u64::from_le_bytes(slip[at..at + 8].try_into().expect("8 bytes"));
             let _ = write!(line, " slip {:#x} {:#x}", half(0), half(8));
         }
         if report_length.is_some() {
@@ -347,6 +353,9 @@ impl Replay {
                 _ => {}
             }
         }
+        self.went_on |=
+            function == "memblock_next_free" && self.run_end.is_some_and(|end| numbers[0] == end);
+        self.run_end = (function == "memblock_allocate" && number == 0).then(|| half(8));
         self.calls += 1;
         self.met.insert(function.into());
         self.numbers.insert(number);
@@ -392,6 +401,9 @@ impl Replay {
         }
         if self.converted == 0 {
             return Err("no conversion was done".into());
+        }
+        if !self.went_on {
+            return Err("next free did not go on from an allocation's run".into());
         }
         if !["block", "mirror"]
             .iter()

@@ -1,5 +1,5 @@
 -- `runs::walk::bounds_high` meets its contract.
-use Rattle.runs.proofs.Ways.{Down}
+use Rattle.runs.specs.declared.Way.the-variants.{Down}
 use Rattle.runs.proofs.Steps.{past-down, bounds-none, bounds-some}
 use borrow.Author.Needs.{needs}
 use Rattle.runs.proofs.walk.bounds_high.Statement.{statement}

@@ -1,5 +1,5 @@
 -- `runs::walk::bounds_low` meets its contract.
-use Rattle.runs.proofs.Ways.{Up}
+use Rattle.runs.specs.declared.Way.the-variants.{Up}
 use Rattle.runs.proofs.Steps.{past-up, bounds-none, bounds-some}
 use borrow.Author.Needs.{needs}
 use Rattle.runs.proofs.walk.bounds_low.Statement.{statement}

@@ -1,7 +1,7 @@
 -- `runs::walk::walk_high` meets its contract. Both invariants: what is still to be walked, the records and taken records below, gives the answer for the whole.
 use Rattle.regions.specs.Bytes.{readRegions}
-use Rattle.runs.specs.Steps.{highestIn}
-use Rattle.runs.proofs.Ways.{Down}
+use Rattle.runs.specs.Steps.{firstIn}
+use Rattle.runs.specs.declared.Way.the-variants.{Down}
 use Rattle.runs.proofs.Steps.{Walking, Gap, remain, begin-down, past-down, enter, covered, room, some-taken, less, onward, leave, skip, over, in-gap, in-last}
 use borrow.Author.Needs.{needs}
 use Rattle.runs.proofs.walk.walk_high.Statement.{statement}
@@ -9,7 +9,7 @@ use Rattle.runs.proofs.walk.walk_high.Tie as tie
 
 abbrev Inv-loop : tie.InvT-loop
 Inv-loop memory mcount taken tcount q first last i j₀ t₀ bottom lo top₀ hi₀ j t top hi =
-    Gap Down memory mcount taken tcount q (highestIn (readRegions mcount memory) (readRegions tcount taken) q) i j t bottom lo top hi
+    Gap Down memory mcount taken tcount q (firstIn Down (readRegions mcount memory) (readRegions tcount taken) q) i j t bottom lo top hi
 
 abbrev μ-loop : tie.MeasureT-loop
 μ-loop memory mcount taken tcount q first last i j₀ t₀ bottom lo top₀ hi₀ j t top hi =
@@ -17,7 +17,7 @@ abbrev μ-loop : tie.MeasureT-loop
 
 abbrev Inv-records : tie.InvT-records
 Inv-records memory mcount taken tcount q first last i₀ j₀ t₀ i j t =
-    Walking Down memory mcount taken tcount q (highestIn (readRegions mcount memory) (readRegions tcount taken) q) i j t
+    Walking Down memory mcount taken tcount q (firstIn Down (readRegions mcount memory) (readRegions tcount taken) q) i j t
 
 abbrev μ-records : tie.MeasureT-records
 μ-records memory mcount taken tcount q first last i₀ j₀ t₀ i j t =

@@ -1,7 +1,7 @@
 -- `runs::walk::walk_low` meets its contract. Both invariants: what is still to be walked, the records and taken records behind, gives the answer for the whole.
 use Rattle.regions.specs.Bytes.{readRegions}
-use Rattle.runs.specs.Steps.{lowestIn}
-use Rattle.runs.proofs.Ways.{Up}
+use Rattle.runs.specs.Steps.{firstIn}
+use Rattle.runs.specs.declared.Way.the-variants.{Up}
 use Rattle.runs.proofs.Steps.{Walking, Gap, remain, memory-table, taken-table, begin-up, past-up, enter, covered, room, less, onward, leave, skip, over, in-gap, in-last}
 use borrow.Author.Needs.{needs}
 use Rattle.runs.proofs.walk.walk_low.Statement.{statement}
@@ -9,7 +9,7 @@ use Rattle.runs.proofs.walk.walk_low.Tie as tie
 
 abbrev Inv-loop : tie.InvT-loop
 Inv-loop memory mcount taken tcount q first last i j₀ t₀ top hi low₀ lo₀ j t low lo =
-    Gap Up memory mcount taken tcount q (lowestIn (readRegions mcount memory) (readRegions tcount taken) q) i j t low lo top hi
+    Gap Up memory mcount taken tcount q (firstIn Up (readRegions mcount memory) (readRegions tcount taken) q) i j t low lo top hi
 
 abbrev μ-loop : tie.MeasureT-loop
 μ-loop memory mcount taken tcount q first last i j₀ t₀ top hi low₀ lo₀ j t low lo =
@@ -17,7 +17,7 @@ abbrev μ-loop : tie.MeasureT-loop
 
 abbrev Inv-records : tie.InvT-records
 Inv-records memory mcount taken tcount q first last i₀ j₀ t₀ i j t =
-    Walking Up memory mcount taken tcount q (lowestIn (readRegions mcount memory) (readRegions tcount taken) q) i j t
+    Walking Up memory mcount taken tcount q (firstIn Up (readRegions mcount memory) (readRegions tcount taken) q) i j t
 
 abbrev μ-records : tie.MeasureT-records
 μ-records memory mcount taken tcount q first last i₀ j₀ t₀ i j t =

@@ -1,5 +1,6 @@
 -- `search::seek::find_in` meets its contract.
-use Rattle.search.proofs.InBlock.{header-room, ready-window, find-low, find-high}
+use Rattle.search.proofs.InBlock.{header-room, ready-window, find-first}
+use Rattle.runs.specs.declared.Way.the-variants.{Up, Down}
 use borrow.Author.Needs.{needs}
 use Rattle.search.proofs.seek.find_in.Statement.{statement}
 use Rattle.search.proofs.seek.find_in.Tie as tie
@@ -10,17 +11,17 @@ get-header-requires c κs = search (header-room, needs)
 window-requires : tie.Need-window-requires
 window-requires c κs = search needs
 
-lowest-in-requires : tie.Need-lowest-in-requires
-lowest-in-requires c κs = search (ready-window, needs)
+first-in-requires : tie.Need-first-in-requires
+first-in-requires c κs = search (ready-window, needs)
 
 returns : tie.Need-returns
-returns c = search (find-low, needs)
+returns c = search (find-first Up, needs)
 
-highest-in-requires : tie.Need-highest-in-requires
-highest-in-requires c κs = search (ready-window, needs)
+first-in-requires-2 : tie.Need-first-in-requires-2
+first-in-requires-2 c κs = search (ready-window, needs)
 
 returns-2 : tie.Need-returns-2
-returns-2 c = search (find-high, needs)
+returns-2 c = search (find-first Down, needs)
 
 pub find-in-spec : {M : Type 1} → statement M
 find-in-spec =
@@ -28,7 +29,7 @@ find-in-spec =
     (tie.spec
     get-header-requires
     window-requires
-    lowest-in-requires
+    first-in-requires
     returns
-    highest-in-requires
+    first-in-requires-2
     returns-2)

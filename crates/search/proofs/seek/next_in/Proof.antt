@@ -7,11 +7,11 @@ use Rattle.search.proofs.seek.next_in.Tie as tie
 next-query-requires : tie.Need-next-query-requires
 next-query-requires c κs = search needs
 
-lowest-in-requires : tie.Need-lowest-in-requires
-lowest-in-requires c κs = search (next-ready, needs)
+first-in-requires : tie.Need-first-in-requires
+first-in-requires c κs = search (next-ready, needs)
 
 returns : tie.Need-returns
 returns c = search (next-found, needs)
 
 pub next-in-spec : {M : Type 1} → statement M
-next-in-spec = tie.close (tie.spec next-query-requires lowest-in-requires returns)
+next-in-spec = tie.close (tie.spec next-query-requires first-in-requires returns)

@@ -164,7 +164,7 @@ uint32_t memblock_trim(uint8_t *block, size_t length, uint64_t alignment);
 uint32_t memblock_next_free(const uint8_t *block, size_t length, uint64_t from, uint32_t node, uint8_t *slip, size_t slip_length);
 
 /* Slip: the lowest (bottom-up) or highest (top-down) multiple a of alignment with start <= a and a + size <= end whose size
- * addresses lie in one free run of the node, and the end of that run: the whole run's, past end and the limit too, never below
+ * addresses lie in one free run of the node, and the end of that run, which neither end nor the limit cuts: it is never below
  * a + size. End 0 is the block's limit, and an end above the limit is cut to it; start is raised to MEMBLOCK_LOWEST_START, then end
  * to start. Answers 0, 8, 1, 2, 3, 4 or 5. */
 uint32_t memblock_find(const uint8_t *block, size_t length, uint64_t size, uint64_t alignment, uint64_t start, uint64_t end,

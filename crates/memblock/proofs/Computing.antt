@@ -123,9 +123,6 @@ abbrev pub spelled : Result → Answer
 spelled p = answer (p .number) (blockBytes current (p .after)) (p .slip)
 
 module _ (s : Contents) (sp : Spellable current s) where
-  b : List ℕ
-  b = blockBytes current s
-
   isGood : good current (blockBytes current s) ≡ true
   isGood = good-spelled-block current small-current s sp
 

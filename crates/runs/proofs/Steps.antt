@@ -60,12 +60,10 @@ record-at (suc k) (suc i) l (next f w) h =
     let e : drop (24 * i) (drop 24 l) ≡ drop (24 * suc i) l = drop-drop (24 * i) 24 l ∙ ap (λ (x : ℕ). drop x l) m in
     rw e at (record-at k i (drop 24 l) w (le-of-suc-le-suc h))
 
-module _ (t : Kind) (k i : ℕ) (l : List ℕ) (r : Region) (g : goodList t (readRegions k l) ≡ true) where
-  pub past-up : i < k → r ≡ readRegion (drop (24 * i) l) → r .base .0 + r .size .0 < 18446744073709551616
-  past-up h e = rw e (omega (arith, record-at k i l (good-rises t (readRegions k l) g) h .past, top-is))
-
-  pub past-down : i ≤ k → (i ≡ 0 → ⊥) → r ≡ readRegion (drop (24 * (i - 1)) l) → r .base .0 + r .size .0 < 18446744073709551616
-  past-down h z e = rw e (omega (arith, record-at k (i - 1) l (good-rises t (readRegions k l) g) (omega arith) .past, top-is))
+-- it ends below 2^64
+pub past-fits : (t : Kind) (k i : ℕ) (l : List ℕ) (r : Region) → goodList t (readRegions k l) ≡ true → i < k → r ≡ readRegion (drop (24 * i) l)
+    → r .base .0 + r .size .0 < 18446744073709551616
+past-fits t k i l r g h e = rw e (omega (arith, record-at k i l (good-rises t (readRegions k l) g) h .past, top-is))
 
 -- ---- the place i in a table of n records
 
@@ -89,9 +87,12 @@ over-or-there Up n i = le-or-lt n i
 over-or-there Down n zero = inl refl
 over-or-there Down n (suc i) = inr (λ e. omega arith)
 
+pub index-below : (v : Way) (n i : ℕ) → i ≤ n → There v n i → index v i < n
+index-below Up n i h o = o
+index-below Down n i h o = omega arith
+
 sized : (v : Way) (t : Kind) (n i : ℕ) (l : List ℕ) → goodList t (readRegions n l) ≡ true → i ≤ n → There v n i → 0 < readRegion (drop (24 * index v i) l) .size .0
-sized Up t n i l g h o = record-at n i l (good-rises t (readRegions n l) g) o .some
-sized Down t n i l g h o = record-at n (i - 1) l (good-rises t (readRegions n l) g) (omega arith) .some
+sized v t n i l g h o = record-at n (index v i) l (good-rises t (readRegions n l) g) (index-below v n i h o) .some
 
 -- how many records are left, and that the place behind the next is a number
 abbrev pub remain : Way → ℕ → ℕ → ℕ

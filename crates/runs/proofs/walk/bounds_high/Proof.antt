@@ -1,6 +1,6 @@
 -- `runs::walk::bounds_high` meets its contract.
 use Rattle.runs.specs.declared.Way.the-variants.{Down}
-use Rattle.runs.proofs.Steps.{past-down, bounds-none, bounds-some}
+use Rattle.runs.proofs.Steps.{past-fits, index-below, bounds-none, bounds-some}
 use borrow.Author.Needs.{needs}
 use Rattle.runs.proofs.walk.bounds_high.Statement.{statement}
 use Rattle.runs.proofs.walk.bounds_high.Tie as tie
@@ -18,7 +18,7 @@ get-region-requires : tie.Need-get-region-requires
 get-region-requires c κs = search needs
 
 past-requires : tie.Need-past-requires
-past-requires c κs = search (past-down, needs)
+past-requires c κs = search (past-fits, index-below Down, needs)
 
 returns-2 : tie.Need-returns-2
 returns-2 c = search (bounds-some Down, needs)

@@ -1,6 +1,6 @@
 -- `runs::walk::bounds_low` meets its contract.
 use Rattle.runs.specs.declared.Way.the-variants.{Up}
-use Rattle.runs.proofs.Steps.{past-up, bounds-none, bounds-some}
+use Rattle.runs.proofs.Steps.{past-fits, bounds-none, bounds-some}
 use borrow.Author.Needs.{needs}
 use Rattle.runs.proofs.walk.bounds_low.Statement.{statement}
 use Rattle.runs.proofs.walk.bounds_low.Tie as tie
@@ -15,7 +15,7 @@ get-region-requires : tie.Need-get-region-requires
 get-region-requires c κs = search needs
 
 past-requires : tie.Need-past-requires
-past-requires c κs = search (past-up, needs)
+past-requires c κs = search (past-fits, needs)
 
 returns-2 : tie.Need-returns-2
 returns-2 c = search (bounds-some Up, needs)

@@ -2,7 +2,7 @@
 use Rattle.regions.specs.Bytes.{readRegions}
 use Rattle.runs.specs.Steps.{firstIn}
 use Rattle.runs.specs.declared.Way.the-variants.{Down}
-use Rattle.runs.proofs.Steps.{Walking, Gap, remain, begin-down, past-down, enter, covered, room, some-taken, less, onward, leave, skip, over, in-gap, in-last}
+use Rattle.runs.proofs.Steps.{Walking, Gap, remain, begin-down, past-fits, index-below, enter, covered, room, some-taken, less, onward, leave, skip, over, in-gap, in-last}
 use borrow.Author.Needs.{needs}
 use Rattle.runs.proofs.walk.walk_high.Statement.{statement}
 use Rattle.runs.proofs.walk.walk_high.Tie as tie
@@ -45,7 +45,7 @@ max-requires : tie.Need-max-requires Inv-loop μ-loop Inv-records μ-records
 max-requires c κs = search needs
 
 past-requires : tie.Need-past-requires Inv-loop μ-loop Inv-records μ-records
-past-requires c κs = search (past-down, needs)
+past-requires c κs = search (past-fits, index-below Down, needs)
 
 min-requires : tie.Need-min-requires Inv-loop μ-loop Inv-records μ-records
 min-requires c κs = search needs

@@ -2,7 +2,7 @@
 use Rattle.regions.specs.Bytes.{readRegions}
 use Rattle.runs.specs.Steps.{firstIn}
 use Rattle.runs.specs.declared.Way.the-variants.{Up}
-use Rattle.runs.proofs.Steps.{Walking, Gap, remain, memory-table, taken-table, begin-up, past-up, enter, covered, room, less, onward, leave, skip, over, in-gap, in-last}
+use Rattle.runs.proofs.Steps.{Walking, Gap, remain, memory-table, taken-table, begin-up, past-fits, enter, covered, room, less, onward, leave, skip, over, in-gap, in-last}
 use borrow.Author.Needs.{needs}
 use Rattle.runs.proofs.walk.walk_low.Statement.{statement}
 use Rattle.runs.proofs.walk.walk_low.Tie as tie
@@ -51,7 +51,7 @@ serving-requires : tie.Need-serving-requires Inv-loop μ-loop Inv-records μ-rec
 serving-requires c κs = search needs
 
 past-requires : tie.Need-past-requires Inv-loop μ-loop Inv-records μ-records
-past-requires c κs = search (past-up, needs)
+past-requires c κs = search (past-fits, needs)
 
 min-requires : tie.Need-min-requires Inv-loop μ-loop Inv-records μ-records
 min-requires c κs = search needs

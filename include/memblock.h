@@ -30,7 +30,8 @@ extern "C" {
 /* Numbers answered. Checked in the order 8, 1, 10, 2, 3, 4, 7, 5, 6; the first that holds is given. */
 #define MEMBLOCK_DONE 0
 #define MEMBLOCK_BAD_BLOCK 1     /* the block is not good (fresh, convert: not MEMBLOCK_BLOCK_LENGTH bytes; convert: or old is not good) */
-#define MEMBLOCK_BAD_TAG 2       /* add: flags not 0 or 4, or node above 63; searches: node above 63 and not any */
+#define MEMBLOCK_BAD_TAG 2       /* add: flags above 7 or node above 63; mark, unmark: not one flag; searches: node above 63 and not any,
+                                    or wish above 3 */
 #define MEMBLOCK_BAD_ALIGNMENT 3 /* not a power of two */
 #define MEMBLOCK_SIZE_ZERO 4     /* find, allocate */
 #define MEMBLOCK_NO_ADDRESS 5    /* no eligible address below end and limit; next free: no free address */
@@ -43,10 +44,19 @@ extern "C" {
 #define MEMBLOCK_TOP_DOWN 0
 #define MEMBLOCK_BOTTOM_UP 1
 
-/* Tags. */
-#define MEMBLOCK_NO_MAP 4                      /* the one flag; flags are 0 or this */
+/* Tags: flags, a sum of these, and a node. */
+#define MEMBLOCK_HOTPLUG 1                     /* memory that may be pulled out: searches pass it by, unless the wish allows it */
+#define MEMBLOCK_MIRROR 2                      /* memory that is kept twice */
+#define MEMBLOCK_NO_MAP 4                      /* memory that is not mapped: searches always pass it by */
+#define MEMBLOCK_FLAGS 7                       /* all three; flags are 0 to 7 */
 #define MEMBLOCK_NODES 64                      /* nodes are 0 to 63 */
 #define MEMBLOCK_ANY_NODE UINT32_C(0xFFFFFFFF) /* in a search */
+
+/* Wishes of a search, a sum of these. */
+#define MEMBLOCK_WISH_NONE 0    /* memory that is not hotplug */
+#define MEMBLOCK_WISH_HOTPLUG 1 /* hotplug memory too */
+#define MEMBLOCK_WISH_MIRROR 2  /* mirror memory only */
+#define MEMBLOCK_WISHES 3       /* both; wishes are 0 to 3 */
 
 /* Limits. */
 #define MEMBLOCK_TOP UINT64_C(0xFFFFFFFFFFFFFFFF)      /* ranges of table commands are cut here: the last address is in no table */
@@ -130,7 +140,8 @@ extern "C" {
 uint32_t memblock_fresh(uint8_t *block, size_t length);
 
 /* Writes what a good edition 1 block says over any MEMBLOCK_BLOCK_LENGTH bytes: records, limit and direction as they are there. Good is
- * as it was then: MEMBLOCK_EDITION_1_LENGTH bytes, flags 0 or 4. The two buffers share no byte, and old is not written. Answers 0 or 1. */
+ * as it was then: MEMBLOCK_EDITION_1_LENGTH bytes, flags 0 or MEMBLOCK_NO_MAP. The two buffers share no byte, and old is not written.
+ * Answers 0 or 1. */
 uint32_t memblock_convert(const uint8_t *old, size_t old_length, uint8_t *block, size_t length);
 
 /* Stores a limit and a direction. Find and allocate give no range that ends above the limit, so none at all where it is
@@ -138,7 +149,7 @@ uint32_t memblock_convert(const uint8_t *old, size_t old_length, uint8_t *block,
 uint32_t memblock_set(uint8_t *block, size_t length, uint64_t limit, uint32_t direction);
 
 /* Commands on the range from base up to, not including, base + size, cut at MEMBLOCK_TOP. A size of 0 changes nothing.
- * Each answers 0, 1 or 6, add also 2. */
+ * Each answers 0, 1 or 6; add, mark and unmark also 2, whatever the size. */
 
 /* Gives the tag to each address not yet in memory; those already there keep theirs. */
 uint32_t memblock_add(uint8_t *block, size_t length, uint64_t base, uint64_t size, uint32_t flags, uint32_t node);
@@ -146,9 +157,9 @@ uint32_t memblock_add(uint8_t *block, size_t length, uint64_t base, uint64_t siz
 /* Takes addresses out of memory. What is taken stays taken. */
 uint32_t memblock_remove(uint8_t *block, size_t length, uint64_t base, uint64_t size);
 
-/* Sets, or clears, no-map on the addresses that are in memory. */
-uint32_t memblock_mark(uint8_t *block, size_t length, uint64_t base, uint64_t size);
-uint32_t memblock_unmark(uint8_t *block, size_t length, uint64_t base, uint64_t size);
+/* Sets, or clears, one flag (MEMBLOCK_HOTPLUG, MEMBLOCK_MIRROR or MEMBLOCK_NO_MAP) on the addresses that are in memory. */
+uint32_t memblock_mark(uint8_t *block, size_t length, uint64_t base, uint64_t size, uint32_t flag);
+uint32_t memblock_unmark(uint8_t *block, size_t length, uint64_t base, uint64_t size, uint32_t flag);
 
 /* Puts addresses into, or out of, the taken set. They need not be memory; freeing what is not taken changes nothing. */
 uint32_t memblock_reserve(uint8_t *block, size_t length, uint64_t base, uint64_t size);
@@ -157,23 +168,25 @@ uint32_t memblock_free(uint8_t *block, size_t length, uint64_t base, uint64_t si
 /* Rounds each memory record's base up and its end down; a record of which nothing is left goes. Answers 0, 1 or 3. */
 uint32_t memblock_trim(uint8_t *block, size_t length, uint64_t alignment);
 
-/* Searches. A free run is a longest range of memory of one tag, not taken and not no-map. */
+/* Searches. A free run is a longest range of memory of one tag, not taken and not no-map. It is searched when its node is the one asked
+ * for and the wish grants its flags: hotplug memory only with MEMBLOCK_WISH_HOTPLUG, and with MEMBLOCK_WISH_MIRROR only mirror memory. */
 
-/* Slip: the lowest address at or above from in a free run of the node, and the end of that run. 0 is an address like any other;
- * go on from the end. Answers 0, 8, 1, 2 or 5. */
-uint32_t memblock_next_free(const uint8_t *block, size_t length, uint64_t from, uint32_t node, uint8_t *slip, size_t slip_length);
+/* Slip: the lowest address at or above from in a free run of the node and the wish, and the end of that run. 0 is an address like any
+ * other; go on from the end. Answers 0, 8, 1, 2 or 5. */
+uint32_t memblock_next_free(const uint8_t *block, size_t length, uint64_t from, uint32_t node, uint32_t wish, uint8_t *slip,
+                            size_t slip_length);
 
 /* Slip: the lowest (bottom-up) or highest (top-down) multiple a of alignment with start <= a and a + size <= end whose size
- * addresses lie in one free run of the node, and the end of that run, which neither end nor the limit cuts: it is never below
+ * addresses lie in one free run of the node and the wish, and the end of that run, which neither end nor the limit cuts: it is never below
  * a + size. End 0 is the block's limit, and an end above the limit is cut to it; start is raised to MEMBLOCK_LOWEST_START, then end
  * to start. Answers 0, 8, 1, 2, 3, 4 or 5. */
 uint32_t memblock_find(const uint8_t *block, size_t length, uint64_t size, uint64_t alignment, uint64_t start, uint64_t end,
-                       uint32_t node, uint8_t *slip, size_t slip_length);
+                       uint32_t node, uint32_t wish, uint8_t *slip, size_t slip_length);
 
 /* Reserves the size addresses that find finds. Answers as find does, the end being that of the run before the call, or 6; there is no
  * second try at another address. */
 uint32_t memblock_allocate(uint8_t *block, size_t length, uint64_t size, uint64_t alignment, uint64_t start, uint64_t end,
-                           uint32_t node, uint8_t *slip, size_t slip_length);
+                           uint32_t node, uint32_t wish, uint8_t *slip, size_t slip_length);
 
 /* Reports. */
 

@@ -52,7 +52,26 @@ fn main() {
     let text = text
         .replace("memblock_", &format!("{BEFORE}memblock_"))
         .replace("\"library\"", "\"before\"");
-    std::fs::write(out.join("before.rs"), text).expect("the output folder can be written");
+    for (file, text) in [
+        ("before.rs", &text),
+        ("before_e6.rs", &without_words(&text)),
+    ] {
+        std::fs::write(out.join(file), text).expect("the output folder can be written");
+    }
+}
+
+/// The text without the flag of marks and the wish of searches: where a call's own
+/// numbers are named they stay, unnamed.
+fn without_words(text: &str) -> String {
+    let mut text = text.to_string();
+    for word in ["flag", "wish"] {
+        text = text
+            .replace(&format!(", {word}: u32"), "")
+            .replace(&format!(", {word}) =>"), ", _) =>")
+            .replace(&format!(", {word})"), ")")
+            .replace(&format!(", {word}, s, m)"), ", s, m)");
+    }
+    text
 }
 
 /// The archive that a variable names, if it is set.

@@ -1,5 +1,5 @@
-/* A boot: the machine's memory map taken in as an E820 report, what is in use reserved, allocations in both directions, each kind of
- * refusal.
+/* A boot: the machine's memory map taken in as an E820 report, what is in use reserved, memory marked, allocations in both directions,
+ * each kind of refusal.
  *
  * Writes a line for each call, with its numbers, the number answered, a sum over the block's bytes and the slip, or a sum over the
  * bytes of the report or of the old block; at the end both tables. tests/transcript replays the lines on the second program. Runs
@@ -12,6 +12,7 @@
 #define GIB(n) (UINT64_C(1024) * MIB(n))
 #define PAGE KIB(4)
 #define ANY MEMBLOCK_ANY_NODE
+#define NONE MEMBLOCK_WISH_NONE
 #define LENGTH MEMBLOCK_BLOCK_LENGTH
 #define OLD_LENGTH MEMBLOCK_EDITION_1_LENGTH
 
@@ -185,10 +186,26 @@ static uint32_t range(const char *name, on_range *call, struct lent *lent, uint6
 }
 
 #define REMOVE(lent, base, size) range("remove", memblock_remove, lent, base, size)
-#define MARK(lent, base, size) range("mark", memblock_mark, lent, base, size)
-#define UNMARK(lent, base, size) range("unmark", memblock_unmark, lent, base, size)
 #define RESERVE(lent, base, size) range("reserve", memblock_reserve, lent, base, size)
 #define FREE(lent, base, size) range("free", memblock_free, lent, base, size)
+
+static uint32_t mark(struct lent *lent, uint64_t base, uint64_t size, uint32_t flag)
+{
+    begin("mark", lent, LENGTH);
+    named(", ", base);
+    named(", ", size);
+    named(", ", flag);
+    return end(lent, memblock_mark(lent->bytes, LENGTH, base, size, flag));
+}
+
+static uint32_t unmark(struct lent *lent, uint64_t base, uint64_t size, uint32_t flag)
+{
+    begin("unmark", lent, LENGTH);
+    named(", ", base);
+    named(", ", size);
+    named(", ", flag);
+    return end(lent, memblock_unmark(lent->bytes, LENGTH, base, size, flag));
+}
 
 static uint32_t trim(struct lent *lent, uint64_t alignment)
 {
@@ -197,55 +214,57 @@ static uint32_t trim(struct lent *lent, uint64_t alignment)
     return end(lent, memblock_trim(lent->bytes, LENGTH, alignment));
 }
 
-static uint32_t next_free(const struct lent *lent, uint64_t from, uint32_t node, size_t slip_length)
+static uint32_t next_free(const struct lent *lent, uint64_t from, uint32_t node, uint32_t wish, size_t slip_length)
 {
     begin("next_free", lent, LENGTH);
     named(", ", from);
     named(", ", node);
+    named(", ", wish);
     named(", slip, ", slip_length);
-    return end_slip(lent, slip_length, memblock_next_free(lent->bytes, LENGTH, from, node, slip, slip_length));
+    return end_slip(lent, slip_length, memblock_next_free(lent->bytes, LENGTH, from, node, wish, slip, slip_length));
 }
 
 /* What find and allocate are asked for. */
-struct wish {
+struct query {
     uint64_t size, alignment, start, end;
-    uint32_t node;
+    uint32_t node, wish;
     size_t slip_length;
 };
 
-static void wish_line(const char *function, const struct lent *lent, const struct wish *w)
+static void query_line(const char *function, const struct lent *lent, const struct query *q)
 {
     begin(function, lent, LENGTH);
-    named(", ", w->size);
-    named(", ", w->alignment);
-    named(", ", w->start);
-    named(", ", w->end);
-    named(", ", w->node);
-    named(", slip, ", w->slip_length);
+    named(", ", q->size);
+    named(", ", q->alignment);
+    named(", ", q->start);
+    named(", ", q->end);
+    named(", ", q->node);
+    named(", ", q->wish);
+    named(", slip, ", q->slip_length);
 }
 
-static uint32_t find_slip(const struct lent *lent, struct wish w)
+static uint32_t find_slip(const struct lent *lent, struct query q)
 {
-    wish_line("find", lent, &w);
-    return end_slip(lent, w.slip_length,
-                    memblock_find(lent->bytes, LENGTH, w.size, w.alignment, w.start, w.end, w.node, slip, w.slip_length));
+    query_line("find", lent, &q);
+    return end_slip(lent, q.slip_length,
+                    memblock_find(lent->bytes, LENGTH, q.size, q.alignment, q.start, q.end, q.node, q.wish, slip, q.slip_length));
 }
 
-static uint32_t allocate_slip(struct lent *lent, struct wish w)
+static uint32_t allocate_slip(struct lent *lent, struct query q)
 {
-    wish_line("allocate", lent, &w);
-    return end_slip(lent, w.slip_length,
-                    memblock_allocate(lent->bytes, LENGTH, w.size, w.alignment, w.start, w.end, w.node, slip, w.slip_length));
+    query_line("allocate", lent, &q);
+    return end_slip(lent, q.slip_length,
+                    memblock_allocate(lent->bytes, LENGTH, q.size, q.alignment, q.start, q.end, q.node, q.wish, slip, q.slip_length));
 }
 
 static uint32_t find(const struct lent *lent, uint64_t size, uint64_t alignment, uint64_t start, uint64_t end, uint32_t node)
 {
-    return find_slip(lent, (struct wish){size, alignment, start, end, node, MEMBLOCK_SLIP_LENGTH});
+    return find_slip(lent, (struct query){size, alignment, start, end, node, NONE, MEMBLOCK_SLIP_LENGTH});
 }
 
 static uint32_t allocate(struct lent *lent, uint64_t size, uint64_t alignment, uint64_t start, uint64_t end, uint32_t node)
 {
-    return allocate_slip(lent, (struct wish){size, alignment, start, end, node, MEMBLOCK_SLIP_LENGTH});
+    return allocate_slip(lent, (struct query){size, alignment, start, end, node, NONE, MEMBLOCK_SLIP_LENGTH});
 }
 
 /* The first bytes of the report as it stands. */
@@ -334,14 +353,14 @@ static void report_entry(uint64_t base, uint64_t size, uint32_t kind)
 
 /* Allocations in use. */
 
-#define USES 16
+#define USES 24
 static struct held uses[USES];
 static size_t use_count;
 
 /* Allocates and uses the memory; what stays allocated to the end must hold it to the end. */
-static void take(uint64_t size, uint64_t alignment, uint64_t start, uint64_t end)
+static void take_wish(uint64_t size, uint64_t alignment, uint64_t start, uint64_t end, uint32_t wish)
 {
-    if (allocate(&block, size, alignment, start, end, ANY) != MEMBLOCK_DONE)
+    if (allocate_slip(&block, (struct query){size, alignment, start, end, ANY, wish, MEMBLOCK_SLIP_LENGTH}) != MEMBLOCK_DONE)
         return;
     if (machine->fill != NULL && use_count < USES) {
         machine->fill(slip_base(), slip_base() + size); /* the slip's end is that of the free run */
@@ -349,6 +368,11 @@ static void take(uint64_t size, uint64_t alignment, uint64_t start, uint64_t end
         uses[use_count].size = size;
         use_count++;
     }
+}
+
+static void take(uint64_t size, uint64_t alignment, uint64_t start, uint64_t end)
+{
+    take_wish(size, alignment, start, end, NONE);
 }
 
 /* Of a use only the first bytes are kept. */
@@ -445,11 +469,39 @@ static void firmware(void)
     if (find(&block, KIB(64), PAGE, 0, 0, ANY) != MEMBLOCK_DONE)
         return;
     uint64_t base = slip_base();
-    MARK(&block, base, KIB(64));
+    mark(&block, base, KIB(64), MEMBLOCK_NO_MAP);
     find(&block, KIB(64), PAGE, 0, 0, ANY);
-    UNMARK(&block, base, KIB(32));
+    unmark(&block, base, KIB(32), MEMBLOCK_NO_MAP);
     find(&block, KIB(16), PAGE, 0, 0, ANY);
-    MARK(&block, base, KIB(32));
+    mark(&block, base, KIB(32), MEMBLOCK_NO_MAP);
+}
+
+/* The memory below the firmware's, in four parts: plain, mirror, mirror and hotplug, hotplug; the lower two were called hotplug by
+ * mistake. Each wish meets what it allows and demands, and no run goes on from one part to the next. */
+static void hotplug_and_mirror(void)
+{
+    static const uint32_t wishes[] = {NONE, MEMBLOCK_WISH_HOTPLUG, MEMBLOCK_WISH_MIRROR, MEMBLOCK_WISHES};
+    const uint64_t part = KIB(16);
+    if (find(&block, 4 * part, PAGE, 0, 0, ANY) != MEMBLOCK_DONE)
+        return;
+    uint64_t base = slip_base();
+    uint64_t end = base + 4 * part;
+    mark(&block, base, 4 * part, MEMBLOCK_HOTPLUG);
+    mark(&block, base + part, 2 * part, MEMBLOCK_MIRROR);
+    unmark(&block, base, 2 * part, MEMBLOCK_HOTPLUG);
+    for (size_t i = 0; i < sizeof wishes / sizeof wishes[0]; i++) {
+        find_slip(&block, (struct query){part - PAGE, PAGE, base, end, ANY, wishes[i], MEMBLOCK_SLIP_LENGTH});
+        find_slip(&block, (struct query){part + 1, 1, base, end, ANY, wishes[i], MEMBLOCK_SLIP_LENGTH});
+        next_free(&block, base, ANY, wishes[i], MEMBLOCK_SLIP_LENGTH);
+        take_wish(PAGE, PAGE, base, end, wishes[i]);
+        next_free(&block, slip_end(), ANY, wishes[i], MEMBLOCK_SLIP_LENGTH);
+    }
+    /* No-map memory is given to no wish, whatever else it is; mirror memory that is none any more to no wish for it. */
+    mark(&block, base + 2 * part, PAGE, MEMBLOCK_NO_MAP);
+    take_wish(PAGE, PAGE, base + 2 * part, base + 2 * part + PAGE, MEMBLOCK_WISHES);
+    unmark(&block, base + 2 * part, PAGE, MEMBLOCK_NO_MAP);
+    unmark(&block, base + part, PAGE, MEMBLOCK_MIRROR);
+    take_wish(PAGE, PAGE, base + part, base + part + PAGE, MEMBLOCK_WISH_MIRROR);
 }
 
 /* A trace buffer of all that its free run has left, at most 1 MiB; then where free memory goes on behind that run. */
@@ -459,7 +511,7 @@ static void trace(void)
         return;
     uint64_t left = slip_end() - slip_base();
     take(left < MIB(1) ? left : MIB(1), PAGE, slip_base(), 0);
-    next_free(&block, slip_end(), ANY, MEMBLOCK_SLIP_LENGTH);
+    next_free(&block, slip_end(), ANY, NONE, MEMBLOCK_SLIP_LENGTH);
 }
 
 static void allocations(void)
@@ -496,10 +548,10 @@ static void allocations(void)
     take(PAGE, PAGE, 0, MIB(16));
 }
 
-static void free_runs(const struct lent *lent, uint32_t node)
+static void free_runs(const struct lent *lent, uint32_t node, uint32_t wish)
 {
     uint64_t from = 0;
-    while (next_free(lent, from, node, MEMBLOCK_SLIP_LENGTH) == MEMBLOCK_DONE)
+    while (next_free(lent, from, node, wish, MEMBLOCK_SLIP_LENGTH) == MEMBLOCK_DONE)
         from = slip_end();
 }
 
@@ -509,17 +561,17 @@ static void bad_block(void)
     uint8_t byte = block.bytes[MEMBLOCK_MEMORY_TOTAL_AT];
     poke(&block, MEMBLOCK_MEMORY_TOTAL_AT, (uint8_t)(byte + 1));
     set(&block, 0, 2);
-    add(&block, 0, PAGE, 1, 0);
+    add(&block, 0, PAGE, MEMBLOCK_FLAGS + 1, 0);
     REMOVE(&block, 0, PAGE);
-    MARK(&block, 0, PAGE);
-    UNMARK(&block, 0, PAGE);
+    mark(&block, 0, PAGE, 0);
+    unmark(&block, 0, PAGE, MEMBLOCK_NO_MAP);
     RESERVE(&block, 0, PAGE);
     FREE(&block, 0, PAGE);
     trim(&block, 3);
-    next_free(&block, 0, 64, MEMBLOCK_SLIP_LENGTH);
+    next_free(&block, 0, 64, MEMBLOCK_WISHES + 1, MEMBLOCK_SLIP_LENGTH);
     find(&block, 0, 3, 0, 0, 64);
     allocate(&block, 0, 3, 0, 0, 64);
-    allocate_slip(&block, (struct wish){0, 3, 0, 0, 64, MEMBLOCK_SLIP_LENGTH + 1});
+    allocate_slip(&block, (struct query){0, 3, 0, 0, 64, MEMBLOCK_WISHES + 1, MEMBLOCK_SLIP_LENGTH + 1});
     intake(&block, report_length);
     intake(&block, 1);
     poke(&block, MEMBLOCK_MEMORY_TOTAL_AT, byte);
@@ -528,14 +580,20 @@ static void bad_block(void)
 static void refusals(void)
 {
     set(&block, GIB(1), 2);
-    add(&block, 0, PAGE, 1, 0);
+    add(&block, 0, PAGE, MEMBLOCK_FLAGS + 1, 0);
     add(&block, 0, 0, 0, MEMBLOCK_NODES);
+    mark(&block, 0, PAGE, 0);
+    mark(&block, 0, 0, MEMBLOCK_HOTPLUG | MEMBLOCK_MIRROR);
+    unmark(&block, 0, PAGE, MEMBLOCK_FLAGS);
+    unmark(&block, 0, 0, MEMBLOCK_FLAGS + 1);
     trim(&block, 0);
     trim(&block, 0x1800);
-    next_free(&block, 0, MEMBLOCK_NODES, MEMBLOCK_SLIP_LENGTH);
-    next_free(&block, 0, ANY, MEMBLOCK_SLIP_LENGTH - 1);
-    next_free(&block, MEMBLOCK_TOP, ANY, MEMBLOCK_SLIP_LENGTH);
-    find_slip(&block, (struct wish){PAGE, PAGE, 0, 0, ANY, 0});
+    next_free(&block, 0, MEMBLOCK_NODES, NONE, MEMBLOCK_SLIP_LENGTH);
+    next_free(&block, 0, ANY, MEMBLOCK_WISHES + 1, MEMBLOCK_SLIP_LENGTH);
+    next_free(&block, 0, ANY, NONE, MEMBLOCK_SLIP_LENGTH - 1);
+    next_free(&block, MEMBLOCK_TOP, ANY, NONE, MEMBLOCK_SLIP_LENGTH);
+    find_slip(&block, (struct query){PAGE, PAGE, 0, 0, ANY, NONE, 0});
+    find_slip(&block, (struct query){0, 3, 0, 0, ANY, MEMBLOCK_WISHES + 1, MEMBLOCK_SLIP_LENGTH});
     find(&block, PAGE, PAGE, 0, 0, MEMBLOCK_NODES);
     find(&block, 0, 3, 0, 0, ANY);
     find(&block, 0, PAGE, 0, 0, ANY);
@@ -546,7 +604,8 @@ static void refusals(void)
     set(&block, GIB(4), MEMBLOCK_BOTTOM_UP);
     find(&block, MIB(64), 1, 0, MIB(1), ANY);
     find(&block, MEMBLOCK_TOP, UINT64_C(1) << 63, MEMBLOCK_TOP, MEMBLOCK_TOP, ANY);
-    allocate_slip(&block, (struct wish){PAGE, PAGE, 0, 0, ANY, MEMBLOCK_SLIP_LENGTH + GUARD});
+    allocate_slip(&block, (struct query){PAGE, PAGE, 0, 0, ANY, NONE, MEMBLOCK_SLIP_LENGTH + GUARD});
+    allocate_slip(&block, (struct query){PAGE, PAGE, 0, 0, ANY, UINT32_MAX, MEMBLOCK_SLIP_LENGTH});
     allocate(&block, PAGE, PAGE, 0, 0, 1);
     allocate(&block, PAGE, 0, 0, 0, ANY);
     allocate(&block, 0, PAGE, 0, 0, ANY);
@@ -610,16 +669,16 @@ static void full_memory(struct lent *lent)
     report_entry(FAR_TAKEN + 1, 1, MAP_USABLE);
     intake(lent, report_length);
     intake(lent, MEMBLOCK_REPORT_ENTRY_LENGTH);
-    MARK(lent, base + PAGE, 16);
-    UNMARK(lent, base + 3 * PAGE, 16);
+    mark(lent, base + PAGE, 16, MEMBLOCK_MIRROR);
+    unmark(lent, base + 3 * PAGE, 16, MEMBLOCK_NO_MAP);
     /* A named end is cut to the limit, which is below this memory; next free knows no limit. */
     allocate(lent, PAGE, PAGE, 0, GIB(4096), 5);
-    next_free(lent, 0, 5, MEMBLOCK_SLIP_LENGTH);
+    next_free(lent, 0, 5, NONE, MEMBLOCK_SLIP_LENGTH);
     set(lent, GIB(4096), MEMBLOCK_BOTTOM_UP);
     allocate(lent, PAGE, PAGE, 0, GIB(4096), 5);
     FREE(lent, slip_base(), PAGE);
     set(lent, GIB(4), MEMBLOCK_BOTTOM_UP);
-    free_runs(lent, 2);
+    free_runs(lent, 2, NONE);
     trim(lent, 2 * PAGE);
     REMOVE(lent, base, MEMBLOCK_MEMORY_CAPACITY * 2 * PAGE);
 }
@@ -629,9 +688,9 @@ static void another_node(struct lent *lent)
 {
     add(lent, 0, MIB(4), 0, 3);
     find(lent, PAGE, PAGE, 0, 0, 3);
-    free_runs(lent, 3);
+    free_runs(lent, 3, NONE);
     REMOVE(lent, 0x90000, 0x70000);
-    next_free(lent, 0x90000, ANY, MEMBLOCK_SLIP_LENGTH);
+    next_free(lent, 0x90000, ANY, NONE, MEMBLOCK_SLIP_LENGTH);
 }
 
 /* The last addresses: cut at the top, no sum goes round. */
@@ -646,7 +705,7 @@ static void at_the_top(struct lent *lent)
     set(lent, MEMBLOCK_NO_LIMIT - 1, MEMBLOCK_TOP_DOWN);
     find(lent, PAGE - 1, 1, 0, MEMBLOCK_TOP, 1);
     find(lent, PAGE - 2, 1, 0, MEMBLOCK_TOP, 1);
-    next_free(lent, 0, 1, MEMBLOCK_SLIP_LENGTH);
+    next_free(lent, 0, 1, NONE, MEMBLOCK_SLIP_LENGTH);
     REMOVE(lent, UINT64_C(0) - PAGE, MEMBLOCK_TOP);
 }
 
@@ -708,8 +767,12 @@ int boot(const struct machine *runs_on)
     same_backwards(take_report);
     converted();
     firmware();
+    hotplug_and_mirror();
     allocations();
-    free_runs(&block, ANY);
+    free_runs(&block, ANY, NONE);
+    free_runs(&block, ANY, MEMBLOCK_WISH_HOTPLUG);
+    free_runs(&block, ANY, MEMBLOCK_WISH_MIRROR);
+    free_runs(&block, ANY, MEMBLOCK_WISHES);
     refusals();
     bad_block();
     reports(&block);
@@ -718,7 +781,7 @@ int boot(const struct machine *runs_on)
     another_node(&mirror);
     at_the_top(&mirror);
     REMOVE(&block, 0, PAGE); /* the page of null pointers */
-    free_runs(&block, 0);
+    free_runs(&block, 0, MEMBLOCK_WISH_HOTPLUG);
 
     /* Nothing was written where memory in use stands. */
     for (size_t i = 0; i < use_count; i++) {

@@ -11,11 +11,12 @@
 
 #define STACK 32768
 #define OLD_LENGTH MEMBLOCK_EDITION_1_LENGTH
-#define MOST_ARGUMENTS 9
+#define MOST_ARGUMENTS 10
 #define IN_REGISTERS 6
 #define TURNS 300
 
-/* Calls a function with arguments on the stack that ends at top, which is aligned to 16. */
+/* Calls a function on the stack that ends at top, which is aligned to 16; so many of its arguments are on the stack, behind the six in
+ * registers. */
 uint64_t call_on(uint8_t *top, void (*function)(void), const uint64_t *arguments, uint64_t on_stack);
 
 __asm__(".text\n"
@@ -25,13 +26,15 @@ __asm__(".text\n"
         "    movq %rdi, %rsp\n"
         "    movq %rsi, %rax\n"
         "    movq %rdx, %r10\n"
-        "    testq %rcx, %rcx\n"
+        "    testb $1, %cl\n"
         "    jz 1f\n"
         "    subq $8, %rsp\n"
-        "    pushq 64(%r10)\n"
-        "    pushq 56(%r10)\n"
-        "    pushq 48(%r10)\n"
-        "1:  movq (%r10), %rdi\n"
+        "1:  testq %rcx, %rcx\n"
+        "    jz 2f\n"
+        "    pushq 40(%r10, %rcx, 8)\n"
+        "    decq %rcx\n"
+        "    jmp 1b\n"
+        "2:  movq (%r10), %rdi\n"
         "    movq 8(%r10), %rsi\n"
         "    movq 16(%r10), %rdx\n"
         "    movq 24(%r10), %rcx\n"
@@ -42,7 +45,7 @@ __asm__(".text\n"
         "    popq %rbp\n"
         "    ret\n");
 
-enum numbers { NONE, LIMIT, RANGE_TAG, RANGE, ALIGNMENT, FROM, SEARCH, REPORT, OLD };
+enum numbers { NONE, LIMIT, RANGE_TAG, RANGE_FLAG, RANGE, ALIGNMENT, FROM, SEARCH, REPORT, OLD };
 
 static struct function {
     const char *name;
@@ -56,8 +59,8 @@ static struct function {
     {"set", (void (*)(void))memblock_set, LIMIT, MEMBLOCK_STACK_SET, 0, 0, 0},
     {"add", (void (*)(void))memblock_add, RANGE_TAG, MEMBLOCK_STACK_ADD, 0, 0, 0},
     {"remove", (void (*)(void))memblock_remove, RANGE, MEMBLOCK_STACK_REMOVE, 0, 0, 0},
-    {"mark", (void (*)(void))memblock_mark, RANGE, MEMBLOCK_STACK_MARK, 0, 0, 0},
-    {"unmark", (void (*)(void))memblock_unmark, RANGE, MEMBLOCK_STACK_UNMARK, 0, 0, 0},
+    {"mark", (void (*)(void))memblock_mark, RANGE_FLAG, MEMBLOCK_STACK_MARK, 0, 0, 0},
+    {"unmark", (void (*)(void))memblock_unmark, RANGE_FLAG, MEMBLOCK_STACK_UNMARK, 0, 0, 0},
     {"reserve", (void (*)(void))memblock_reserve, RANGE, MEMBLOCK_STACK_RESERVE, 0, 0, 0},
     {"free", (void (*)(void))memblock_free, RANGE, MEMBLOCK_STACK_FREE, 0, 0, 0},
     {"trim", (void (*)(void))memblock_trim, ALIGNMENT, MEMBLOCK_STACK_TRIM, 0, 0, 0},
@@ -91,14 +94,15 @@ static uint64_t below(uint64_t end)
     return any() % end;
 }
 
-/* Memory records of 4 KiB, of which every third touches the one before; taken records of 256 bytes within them. */
-static void fill_tables(unsigned memory, unsigned taken, uint32_t direction)
+/* Memory records of 4 KiB, of which every third touches the one before, of any flags or of those of edition 1; taken records of 256
+ * bytes within them. */
+static void fill_tables(unsigned memory, unsigned taken, uint32_t direction, int any_flags)
 {
     memblock_fresh(before, sizeof before);
     memblock_set(before, sizeof before, MEMBLOCK_NO_LIMIT, direction);
     for (unsigned i = 0; i < memory; i++)
-        memblock_add(before, sizeof before, 0x2000 * (uint64_t)i + (i % 3 == 0 ? 0x1000 : 0), 0x1000, i % 5 == 0 ? MEMBLOCK_NO_MAP : 0,
-                     i % MEMBLOCK_NODES);
+        memblock_add(before, sizeof before, 0x2000 * (uint64_t)i + (i % 3 == 0 ? 0x1000 : 0), 0x1000,
+                     any_flags ? i % (MEMBLOCK_FLAGS + 1) : i % 5 == 0 ? MEMBLOCK_NO_MAP : 0, i % MEMBLOCK_NODES);
     for (unsigned i = 0; i < taken; i++)
         memblock_reserve(before, sizeof before, 0x2000 * (uint64_t)i + 0x1100, 0x100);
 }
@@ -150,6 +154,11 @@ static uint32_t node(void)
     }
 }
 
+static uint32_t wish(void)
+{
+    return (uint32_t)below(below(8) == 0 ? MEMBLOCK_WISHES + 3 : MEMBLOCK_WISHES + 1);
+}
+
 static uint64_t alignment(void)
 {
     return below(10) == 0 ? any() : UINT64_C(1) << (below(8) == 0 ? below(64) : below(13));
@@ -186,8 +195,13 @@ static size_t choose(enum numbers numbers, uint64_t *arguments)
     case RANGE_TAG:
         arguments[n++] = address();
         arguments[n++] = size();
-        arguments[n++] = below(8) == 0 ? below(8) : below(2) * MEMBLOCK_NO_MAP;
+        arguments[n++] = below(below(8) == 0 ? MEMBLOCK_FLAGS + 3 : MEMBLOCK_FLAGS + 1);
         arguments[n++] = below(65);
+        return n;
+    case RANGE_FLAG:
+        arguments[n++] = address();
+        arguments[n++] = size();
+        arguments[n++] = below(8) == 0 ? below(MEMBLOCK_FLAGS + 2) : UINT64_C(1) << below(3);
         return n;
     case RANGE:
         arguments[n++] = address();
@@ -210,6 +224,7 @@ static size_t choose(enum numbers numbers, uint64_t *arguments)
     case FROM:
         arguments[n++] = address();
         arguments[n++] = node();
+        arguments[n++] = wish();
         break;
     case SEARCH:
         arguments[n++] = size();
@@ -217,6 +232,7 @@ static size_t choose(enum numbers numbers, uint64_t *arguments)
         arguments[n++] = below(3) == 0 ? address() : 0;
         arguments[n++] = below(3) == 0 ? address() : 0;
         arguments[n++] = node();
+        arguments[n++] = wish();
         break;
     }
     arguments[n++] = (uint64_t)(uintptr_t)slip;
@@ -229,11 +245,12 @@ static void measure(struct function *function)
     static const uint8_t paints[] = {0x5C, 0xA3};
     uint64_t arguments[MOST_ARGUMENTS] = {0};
     size_t count = choose(function->numbers, arguments);
+    size_t on_stack = count > IN_REGISTERS ? count - IN_REGISTERS : 0;
     for (size_t i = 0; i < sizeof paints; i++) {
         size_t lowest = 0;
         memcpy(block, before, sizeof block);
         memset(stack, paints[i], sizeof stack);
-        uint32_t number = (uint32_t)call_on(stack + sizeof stack, function->call, arguments, count > IN_REGISTERS);
+        uint32_t number = (uint32_t)call_on(stack + sizeof stack, function->call, arguments, on_stack);
         while (lowest < sizeof stack && stack[lowest] == paints[i])
             lowest++;
         if (sizeof stack - lowest > function->deepest)
@@ -255,7 +272,7 @@ int main(void)
         for (size_t t = 0; t < sizeof taken / sizeof taken[0]; t++)
             for (unsigned turn = 0; turn < TURNS; turn++) {
                 if (turn % 50 == 0)
-                    fill_tables(memory[m], taken[t], turn / 50 % 2);
+                    fill_tables(memory[m], taken[t], turn / 50 % 2, turn / 50 % 3 == 0);
                 if (turn % 50 == 49)
                     before[below(sizeof before)] ^= 1; /* most such blocks are bad */
                 for (size_t i = 0; i < count; i++)

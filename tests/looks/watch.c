@@ -179,12 +179,12 @@ static uint32_t remove_some(uint8_t *block, uint64_t base, uint64_t size)
 
 static uint32_t mark(uint8_t *block, uint64_t base, uint64_t size)
 {
-    return memblock_mark(block, MEMBLOCK_BLOCK_LENGTH, base, size);
+    return memblock_mark(block, MEMBLOCK_BLOCK_LENGTH, base, size, MEMBLOCK_NO_MAP);
 }
 
 static uint32_t unmark(uint8_t *block, uint64_t base, uint64_t size)
 {
-    return memblock_unmark(block, MEMBLOCK_BLOCK_LENGTH, base, size);
+    return memblock_unmark(block, MEMBLOCK_BLOCK_LENGTH, base, size, MEMBLOCK_NO_MAP);
 }
 
 static uint32_t reserve(uint8_t *block, uint64_t base, uint64_t size)
@@ -202,12 +202,14 @@ static uint8_t slip[MEMBLOCK_SLIP_LENGTH];
 /* Exactly this range. */
 static uint32_t allocate(uint8_t *block, uint64_t base, uint64_t size)
 {
-    return memblock_allocate(block, MEMBLOCK_BLOCK_LENGTH, size, 1, base, base + size, MEMBLOCK_ANY_NODE, slip, sizeof slip);
+    return memblock_allocate(block, MEMBLOCK_BLOCK_LENGTH, size, 1, base, base + size, MEMBLOCK_ANY_NODE, MEMBLOCK_WISH_NONE, slip,
+                             sizeof slip);
 }
 
 static uint32_t find(uint8_t *block, uint64_t base, uint64_t size)
 {
-    return memblock_find(block, MEMBLOCK_BLOCK_LENGTH, size, 1, base, base + size, MEMBLOCK_ANY_NODE, slip, sizeof slip);
+    return memblock_find(block, MEMBLOCK_BLOCK_LENGTH, size, 1, base, base + size, MEMBLOCK_ANY_NODE, MEMBLOCK_WISH_NONE, slip,
+                         sizeof slip);
 }
 
 static uint32_t set(uint8_t *block, uint64_t base, uint64_t size)

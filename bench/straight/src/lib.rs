@@ -1,6 +1,7 @@
 //! The twelve commands of document 01 and the E820 intake of request E1, on the
-//! block of request E4, as plain Rust: the program that the library's speed is held
-//! against. Same rules, same numbers, same bytes.
+//! block of request E4, with the flags and wishes of request E6, as plain Rust: the
+//! program that the library's speed is held against. Same rules, same numbers, same
+//! bytes.
 
 #![forbid(unsafe_code)]
 
@@ -10,10 +11,11 @@ mod report;
 mod search;
 
 pub use block::{LENGTH, TAKEN};
+pub use record::{HOTPLUG, MIRROR, NO_MAP};
 
 use block::{Block, Which, SLIP};
-use record::{Tag, NO_MAP, PLAIN};
-use search::{Direction, Wish};
+use record::{Tag, PLAIN};
+use search::{Direction, Query, Wanted};
 
 pub const DONE: u32 = 0;
 pub const BAD_BLOCK: u32 = 1;
@@ -28,6 +30,10 @@ pub const BAD_REPORT: u32 = 10;
 
 /// The node that means any.
 pub const ANY_NODE: u32 = u32::MAX;
+/// A wish that allows hotplug memory.
+pub const WISH_HOTPLUG: u32 = 1;
+/// A wish that demands mirror memory.
+pub const WISH_MIRROR: u32 = 2;
 
 #[inline(never)]
 pub fn fresh(block: &mut [u8]) -> u32 {
@@ -68,20 +74,13 @@ pub fn remove(block: &mut [u8], base: u64, size: u64) -> u32 {
 }
 
 #[inline(never)]
-pub fn mark(block: &mut [u8], base: u64, size: u64) -> u32 {
-    change(block, Which::Memory, base, size, |old| {
-        old.map(|tag| Tag {
-            flags: NO_MAP,
-            ..tag
-        })
-    })
+pub fn mark(block: &mut [u8], base: u64, size: u64, flag: u32) -> u32 {
+    change_flag(block, base, size, flag, |flags| flags | flag)
 }
 
 #[inline(never)]
-pub fn unmark(block: &mut [u8], base: u64, size: u64) -> u32 {
-    change(block, Which::Memory, base, size, |old| {
-        old.map(|tag| Tag { flags: 0, ..tag })
-    })
+pub fn unmark(block: &mut [u8], base: u64, size: u64, flag: u32) -> u32 {
+    change_flag(block, base, size, flag, |flags| flags & !flag)
 }
 
 #[inline(never)]
@@ -129,11 +128,11 @@ pub fn intake_e820(block: &mut [u8], report: &[u8]) -> u32 {
 }
 
 #[inline(never)]
-pub fn next_free(block: &[u8], from: u64, node: u32, slip: &mut [u8]) -> u32 {
+pub fn next_free(block: &[u8], from: u64, node: u32, wish: u32, slip: &mut [u8]) -> u32 {
     let answer = || {
         let block = Block::check(block).ok_or(BAD_BLOCK)?;
-        check_node(node)?;
-        search::lowest_run(&block, from, node).ok_or(NOT_FOUND)
+        let wanted = wanted(node, wish)?;
+        search::lowest_run(&block, from, wanted).ok_or(NOT_FOUND)
     };
     with_slip(slip, answer)
 }
@@ -146,11 +145,12 @@ pub fn find(
     start: u64,
     end: u64,
     node: u32,
+    wish: u32,
     slip: &mut [u8],
 ) -> u32 {
     let answer = || {
         let block = Block::check(block).ok_or(BAD_BLOCK)?;
-        look(&block, size, alignment, start, end, node)
+        look(&block, size, alignment, start, end, wanted(node, wish))
     };
     with_slip(slip, answer)
 }
@@ -163,11 +163,12 @@ pub fn allocate(
     start: u64,
     end: u64,
     node: u32,
+    wish: u32,
     slip: &mut [u8],
 ) -> u32 {
     let answer = || {
         let mut block = Block::check(block).ok_or(BAD_BLOCK)?;
-        let (address, run_end) = look(&block, size, alignment, start, end, node)?;
+        let (address, run_end) = look(&block, size, alignment, start, end, wanted(node, wish))?;
         match block.change(Which::Taken, address, size, |_| Some(PLAIN)) {
             DONE => Ok((address, run_end)),
             refusal => Err(refusal),
@@ -190,11 +191,34 @@ fn change(
     }
 }
 
-fn check_node(node: u32) -> Result<(), u32> {
-    if node > record::LAST_NODE && node != ANY_NODE {
+/// Mark and unmark.
+fn change_flag(
+    block: &mut [u8],
+    base: u64,
+    size: u64,
+    flag: u32,
+    new_flags: impl Fn(u32) -> u32,
+) -> u32 {
+    let Some(mut block) = Block::check(block) else {
+        return BAD_BLOCK;
+    };
+    if flag != HOTPLUG && flag != MIRROR && flag != NO_MAP {
+        return BAD_TAG;
+    }
+    block.change(Which::Memory, base, size, |old| {
+        old.map(|tag| Tag {
+            flags: new_flags(tag.flags),
+            ..tag
+        })
+    })
+}
+
+/// What may be given, if node and wish may be asked for.
+fn wanted(node: u32, wish: u32) -> Result<Wanted, u32> {
+    if node > record::LAST_NODE && node != ANY_NODE || wish > WISH_HOTPLUG | WISH_MIRROR {
         return Err(BAD_TAG);
     }
-    Ok(())
+    Ok(Wanted::new(node, wish))
 }
 
 /// The address that find gives on a good block and its run's end, or why there is
@@ -205,9 +229,9 @@ fn look<B: AsRef<[u8]>>(
     alignment: u64,
     start: u64,
     end: u64,
-    node: u32,
+    wanted: Result<Wanted, u32>,
 ) -> Result<(u64, u64), u32> {
-    check_node(node)?;
+    let wanted = wanted?;
     if !alignment.is_power_of_two() {
         return Err(BAD_ALIGNMENT);
     }
@@ -219,18 +243,18 @@ fn look<B: AsRef<[u8]>>(
         named => named.min(block.limit()),
     };
     let start = start.max(4096);
-    let wish = Wish {
+    let query = Query {
         size,
         alignment,
         start,
         end: end.max(start),
-        node,
+        wanted,
     };
     let direction = match block.direction() {
         0 => Direction::TopDown,
         _ => Direction::BottomUp,
     };
-    search::find(block, &wish, direction).ok_or(NOT_FOUND)
+    search::find(block, &query, direction).ok_or(NOT_FOUND)
 }
 
 /// Writes the slip: the answer, or zeros for a refusal.

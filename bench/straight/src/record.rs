@@ -1,7 +1,11 @@
 //! A record of a table and its 24 bytes.
 
 pub const RECORD: usize = 24;
+pub const HOTPLUG: u32 = 1;
+pub const MIRROR: u32 = 2;
 pub const NO_MAP: u32 = 4;
+/// All flags together.
+const FLAGS: u32 = HOTPLUG | MIRROR | NO_MAP;
 pub const LAST_NODE: u32 = 63;
 
 #[derive(Clone, Copy, PartialEq, Eq)]
@@ -15,7 +19,7 @@ pub const PLAIN: Tag = Tag { flags: 0, node: 0 };
 
 impl Tag {
     pub fn is_legal(self) -> bool {
-        (self.flags == 0 || self.flags == NO_MAP) && self.node <= LAST_NODE
+        self.flags <= FLAGS && self.node <= LAST_NODE
     }
 }
 

@@ -1,8 +1,8 @@
 //! Searches over the free runs of a good block.
 
 use crate::block::{Block, Which};
-use crate::record::{Record, NO_MAP};
-use crate::ANY_NODE;
+use crate::record::{Record, HOTPLUG, MIRROR, NO_MAP};
+use crate::{ANY_NODE, WISH_HOTPLUG, WISH_MIRROR};
 
 #[derive(Clone, Copy)]
 pub enum Direction {
@@ -10,40 +10,70 @@ pub enum Direction {
     BottomUp,
 }
 
+/// The memory that a search may give: of a node, with the demanded flags and no
+/// other of those asked about.
+#[derive(Clone, Copy)]
+pub struct Wanted {
+    node: u32,
+    asked: u32,
+    demanded: u32,
+}
+
+impl Wanted {
+    pub fn new(node: u32, wish: u32) -> Wanted {
+        let demanded = if wish & WISH_MIRROR != 0 { MIRROR } else { 0 };
+        let refused = if wish & WISH_HOTPLUG != 0 {
+            NO_MAP
+        } else {
+            NO_MAP | HOTPLUG
+        };
+        Wanted {
+            node,
+            asked: refused | demanded,
+            demanded,
+        }
+    }
+
+    fn grants(self, record: &Record) -> bool {
+        let tag = record.tag;
+        tag.flags & self.asked == self.demanded && (self.node == ANY_NODE || self.node == tag.node)
+    }
+}
+
 /// What a search asks for, after the window is settled.
-pub struct Wish {
+pub struct Query {
     pub size: u64,
     pub alignment: u64,
     pub start: u64,
     pub end: u64,
-    pub node: u32,
+    pub wanted: Wanted,
 }
 
 /// The lowest or highest eligible address, and the end of its run.
 pub fn find<B: AsRef<[u8]>>(
     block: &Block<B>,
-    wish: &Wish,
+    query: &Query,
     direction: Direction,
 ) -> Option<(u64, u64)> {
     match direction {
-        Direction::BottomUp => lowest(block, wish.start, wish.end, wish.node, |from, to| {
-            let address = from.checked_next_multiple_of(wish.alignment)?;
-            (address <= to && to - address >= wish.size).then_some(address)
+        Direction::BottomUp => lowest(block, query.start, query.end, query.wanted, |from, to| {
+            let address = from.checked_next_multiple_of(query.alignment)?;
+            (address <= to && to - address >= query.size).then_some(address)
         }),
-        Direction::TopDown => highest(block, wish.start, wish.end, wish.node, |from, to| {
-            let address = to.checked_sub(wish.size)? & !(wish.alignment - 1);
+        Direction::TopDown => highest(block, query.start, query.end, query.wanted, |from, to| {
+            let address = to.checked_sub(query.size)? & !(query.alignment - 1);
             (address >= from).then_some(address)
         }),
     }
 }
 
 /// The lowest part of a free run at or above an address.
-pub fn lowest_run<B: AsRef<[u8]>>(block: &Block<B>, from: u64, node: u32) -> Option<(u64, u64)> {
-    lowest(block, from, u64::MAX, node, |from, _| Some(from))
-}
-
-fn is_wanted(record: &Record, node: u32) -> bool {
-    record.tag.flags != NO_MAP && (node == ANY_NODE || record.tag.node == node)
+pub fn lowest_run<B: AsRef<[u8]>>(
+    block: &Block<B>,
+    from: u64,
+    wanted: Wanted,
+) -> Option<(u64, u64)> {
+    lowest(block, from, u64::MAX, wanted, |from, _| Some(from))
 }
 
 /// Shows `fit` the free runs inside the window, lowest first, until it answers with
@@ -52,14 +82,14 @@ fn lowest<B: AsRef<[u8]>>(
     block: &Block<B>,
     start: u64,
     end: u64,
-    node: u32,
+    wanted: Wanted,
     fit: impl Fn(u64, u64) -> Option<u64>,
 ) -> Option<(u64, u64)> {
     let mut taken = block.records(Which::Taken).peekable();
     for memory in block.records(Which::Memory) {
         let mut at = memory.base.max(start);
         let stop = memory.end().min(end);
-        if at >= stop || !is_wanted(&memory, node) {
+        if at >= stop || !wanted.grants(&memory) {
             continue;
         }
         while let Some(next) = taken.peek() {
@@ -92,7 +122,7 @@ fn highest<B: AsRef<[u8]>>(
     block: &Block<B>,
     start: u64,
     end: u64,
-    node: u32,
+    wanted: Wanted,
     fit: impl Fn(u64, u64) -> Option<u64>,
 ) -> Option<(u64, u64)> {
     let mut taken = block.records(Which::Taken).rev().peekable();
@@ -100,7 +130,7 @@ fn highest<B: AsRef<[u8]>>(
         let stop = memory.base.max(start);
         let mut run_end = memory.end();
         let mut at = run_end.min(end);
-        if stop >= at || !is_wanted(&memory, node) {
+        if stop >= at || !wanted.grants(&memory) {
             continue;
         }
         while let Some(next) = taken.peek() {

@@ -1,7 +1,9 @@
 //! Random calls on both sides, to show that they follow the same rules.
 
 use crate::rng::Rng;
-use crate::sides::{call_both, entry, Block, Call, Side, ANY_NODE, LENGTH};
+use crate::sides::{
+    call_both, entry, Block, Call, Side, ANY_NODE, HOTPLUG, LENGTH, MIRROR, NO_MAP,
+};
 
 /// Makes this many calls; fails at the first difference.
 pub fn random_calls<Other: Side>(calls: u64) {
@@ -135,22 +137,32 @@ fn random_call(rng: &mut Rng, wide: bool) -> Call<'static> {
         0 => 0,
         _ => rng.between(1, 4000) << shift,
     };
+    let wish = match rng.between(0, 19) {
+        0 => rng.between(4, 5) as u32,
+        _ => rng.between(0, 3) as u32,
+    };
+    let flag = match rng.between(0, 19) {
+        0 => rng.between(0, 9) as u32,
+        _ => [HOTPLUG, MIRROR, NO_MAP][rng.between(0, 2) as usize],
+    };
     match rng.between(0, 199) {
-        0..=59 => Call::Add(
-            base,
-            size,
-            [0, 0, 0, 4, 4, 1][rng.between(0, 5) as usize],
-            node.min(64),
-        ),
+        0..=59 => {
+            let flags = match rng.between(0, 5) {
+                0..=2 => 0,
+                3 => rng.between(0, 9) as u32,
+                _ => rng.between(0, 7) as u32,
+            };
+            Call::Add(base, size, flags, node.min(64))
+        }
         60..=79 => Call::Remove(base, size),
-        80..=89 => Call::Mark(base, size),
-        90..=99 => Call::Unmark(base, size),
+        80..=89 => Call::Mark(base, size, flag),
+        90..=99 => Call::Unmark(base, size, flag),
         100..=129 => Call::Reserve(base, size),
         130..=149 => Call::Free(base, size),
         150 => Call::Trim(alignment.min(16)),
         151..=159 => Call::Set(if wide { u64::MAX } else { base }, rng.between(0, 2) as u32),
-        160..=169 => Call::NextFree(base, node),
-        170..=184 => Call::Find(size, alignment, start, end, node),
-        _ => Call::Allocate(size, alignment, start, end, node),
+        160..=169 => Call::NextFree(base, node, wish),
+        170..=184 => Call::Find(size, alignment, start, end, node, wish),
+        _ => Call::Allocate(size, alignment, start, end, node, wish),
     }
 }

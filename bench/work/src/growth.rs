@@ -1,7 +1,8 @@
 //! How one call grows with the fill of the tables: the calls, and their time.
 
 use crate::library::Library;
-use crate::sides::{call_both, Block, Call, Side, ANY_NODE, BOTTOM_UP, LENGTH, TOP_DOWN};
+use crate::sides::{call_both, Block, Call, Side, ANY_NODE, NO_MAP, NO_WISH};
+use crate::sides::{BOTTOM_UP, LENGTH, TOP_DOWN};
 use crate::time::{clock, middle, nanoseconds};
 use std::hint::black_box;
 use std::time::Instant;
@@ -71,10 +72,10 @@ pub fn rows(fill: u64) -> Vec<Row> {
     let apart = middle - STEP / 2;
     let top = base(fill);
     let reserve = |base| Call::Reserve(base, PAGE);
-    let find = Call::Find(2 * PAGE, PAGE, 0, 0, ANY_NODE);
-    let allocate = Call::Allocate(2 * PAGE, PAGE, 0, 0, ANY_NODE);
-    let next_free = Call::NextFree(base(fill - 1) + 2 * PAGE, ANY_NODE);
-    let marked = Call::Mark(middle, STEP / 2);
+    let find = Call::Find(2 * PAGE, PAGE, 0, 0, ANY_NODE, NO_WISH);
+    let allocate = Call::Allocate(2 * PAGE, PAGE, 0, 0, ANY_NODE, NO_WISH);
+    let next_free = Call::NextFree(base(fill - 1) + 2 * PAGE, ANY_NODE, NO_WISH);
+    let marked = Call::Mark(middle, STEP / 2, NO_MAP);
     let down = |name, call| Row {
         name,
         direction: TOP_DOWN,
@@ -90,10 +91,10 @@ pub fn rows(fill: u64) -> Vec<Row> {
         down("set", Call::Set(1 << 40, BOTTOM_UP)),
         down("add", Call::Add(apart, PAGE, 0, 0)),
         down("remove", Call::Remove(middle + 8 * PAGE, PAGE)),
-        down("mark", Call::Mark(middle, PAGE)),
+        down("mark", Call::Mark(middle, PAGE, NO_MAP)),
         Row {
             before: Some(marked),
-            ..down("unmark", Call::Unmark(middle, PAGE))
+            ..down("unmark", Call::Unmark(middle, PAGE, NO_MAP))
         },
         down("trim", Call::Trim(PAGE)),
         down("reserve, first", reserve(base(0) - STEP / 2)),
@@ -102,7 +103,7 @@ pub fn rows(fill: u64) -> Vec<Row> {
         down("free", Call::Free(middle + 8 * PAGE, PAGE)),
         down("free, upper half", Call::Free(middle, top - middle)),
         down("free, all", Call::Free(0, top)),
-        down("mark, all", Call::Mark(0, top)),
+        down("mark, all", Call::Mark(0, top, NO_MAP)),
         down("reserve, all", Call::Reserve(0, top)),
         down("next free", next_free),
         down("find, top-down", find),

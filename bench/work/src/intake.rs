@@ -4,7 +4,7 @@
 
 use crate::library::Library;
 use crate::rng::Rng;
-use crate::sides::{entry, Block, Call, Side, Slip, ANY_NODE, LENGTH, TOP_DOWN};
+use crate::sides::{entry, Block, Call, Side, Slip, ANY_NODE, LENGTH, NO_WISH, TOP_DOWN};
 use crate::time::{median, nanoseconds};
 use std::hint::black_box;
 use std::time::Instant;
@@ -159,7 +159,7 @@ pub fn counted(
 }
 
 fn allocations() -> [Call<'static>; ALLOCATIONS] {
-    [Call::Allocate(PAGE, PAGE, 0, 0, ANY_NODE); ALLOCATIONS]
+    [Call::Allocate(PAGE, PAGE, 0, 0, ANY_NODE, NO_WISH); ALLOCATIONS]
 }
 
 /// Runs both sides in turn and compares what each pair of runs leaves.

@@ -1,4 +1,5 @@
-// The functions of an archive. This text is compiled twice: for the archive that is measured, and by build.rs under other names for an earlier one.
+// The functions of an archive. This text is compiled three times: for the archive that is measured, and by build.rs under other names for an earlier one,
+// as it is and without flag and wish, which the functions take since request E6.
 
 use crate::sides::{Block, Call, Side, Slip, LENGTH};
 
@@ -8,17 +9,17 @@ extern "C" {
     fn memblock_set(block: *mut u8, len: usize, limit: u64, direction: u32) -> u32;
     fn memblock_add(block: *mut u8, len: usize, base: u64, size: u64, flags: u32, node: u32) -> u32;
     fn memblock_remove(block: *mut u8, len: usize, base: u64, size: u64) -> u32;
-    fn memblock_mark(block: *mut u8, len: usize, base: u64, size: u64) -> u32;
-    fn memblock_unmark(block: *mut u8, len: usize, base: u64, size: u64) -> u32;
+    fn memblock_mark(block: *mut u8, len: usize, base: u64, size: u64, flag: u32) -> u32;
+    fn memblock_unmark(block: *mut u8, len: usize, base: u64, size: u64, flag: u32) -> u32;
     fn memblock_reserve(block: *mut u8, len: usize, base: u64, size: u64) -> u32;
     fn memblock_free(block: *mut u8, len: usize, base: u64, size: u64) -> u32;
     fn memblock_trim(block: *mut u8, len: usize, alignment: u64) -> u32;
-    fn memblock_next_free(block: *const u8, len: usize, from: u64, node: u32,
+    fn memblock_next_free(block: *const u8, len: usize, from: u64, node: u32, wish: u32,
         slip: *mut u8, slip_len: usize) -> u32;
     fn memblock_find(block: *const u8, len: usize, size: u64, alignment: u64, start: u64, end: u64,
-        node: u32, slip: *mut u8, slip_len: usize) -> u32;
+        node: u32, wish: u32, slip: *mut u8, slip_len: usize) -> u32;
     fn memblock_allocate(block: *mut u8, len: usize, size: u64, alignment: u64, start: u64, end: u64,
-        node: u32, slip: *mut u8, slip_len: usize) -> u32;
+        node: u32, wish: u32, slip: *mut u8, slip_len: usize) -> u32;
     fn memblock_intake_e820(block: *mut u8, len: usize, report: *const u8, report_len: usize) -> u32;
 }
 
@@ -38,17 +39,19 @@ impl Side for Library {
                 Call::Set(limit, direction) => memblock_set(b, n, limit, direction),
                 Call::Add(base, size, flags, node) => memblock_add(b, n, base, size, flags, node),
                 Call::Remove(base, size) => memblock_remove(b, n, base, size),
-                Call::Mark(base, size) => memblock_mark(b, n, base, size),
-                Call::Unmark(base, size) => memblock_unmark(b, n, base, size),
+                Call::Mark(base, size, flag) => memblock_mark(b, n, base, size, flag),
+                Call::Unmark(base, size, flag) => memblock_unmark(b, n, base, size, flag),
                 Call::Reserve(base, size) => memblock_reserve(b, n, base, size),
                 Call::Free(base, size) => memblock_free(b, n, base, size),
                 Call::Trim(alignment) => memblock_trim(b, n, alignment),
-                Call::NextFree(from, node) => memblock_next_free(b, n, from, node, s, m),
-                Call::Find(size, alignment, start, end, node) => {
-                    memblock_find(b, n, size, alignment, start, end, node, s, m)
+                Call::NextFree(from, node, wish) => {
+                    memblock_next_free(b, n, from, node, wish, s, m)
                 }
-                Call::Allocate(size, alignment, start, end, node) => {
-                    memblock_allocate(b, n, size, alignment, start, end, node, s, m)
+                Call::Find(size, alignment, start, end, node, wish) => {
+                    memblock_find(b, n, size, alignment, start, end, node, wish, s, m)
+                }
+                Call::Allocate(size, alignment, start, end, node, wish) => {
+                    memblock_allocate(b, n, size, alignment, start, end, node, wish, s, m)
                 }
                 Call::Intake(report) => memblock_intake_e820(b, n, report.as_ptr(), report.len()),
             }

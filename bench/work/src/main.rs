@@ -6,6 +6,11 @@
 mod before {
     include!(concat!(env!("OUT_DIR"), "/before.rs"));
 }
+/// The same, as its functions were before request E6: without flag and wish.
+#[allow(clashing_extern_declarations)]
+mod before_e6 {
+    include!(concat!(env!("OUT_DIR"), "/before_e6.rs"));
+}
 mod count;
 mod equal;
 mod growth;
@@ -16,8 +21,9 @@ mod sides;
 mod time;
 
 use before::Library as Before;
+use before_e6::Library as BeforeE6;
 use intake::Pages;
-use sides::{Side, Straight, BOTTOM_UP, TOP_DOWN};
+use sides::{Block, Call, Side, Straight, ANY_NODE, BOTTOM_UP, NO_WISH, TOP_DOWN};
 
 const SEEDS: [u64; 5] = [1, 2, 3, 4, 5];
 const RUNS: usize = 100;
@@ -59,7 +65,13 @@ fn main() {
     let mut wanted: Vec<String> = std::env::args().skip(1).collect();
     let parts = if wanted.first().is_some_and(|word| word == "since") {
         wanted.remove(0);
-        parts::<Before>()
+        if takes_no_wish() {
+            let mut parts = parts::<BeforeE6>();
+            parts[0].1 = equal_left_out;
+            parts
+        } else {
+            parts::<Before>()
+        }
     } else {
         parts::<Straight>()
     };
@@ -74,6 +86,20 @@ fn main() {
             part();
         }
     }
+}
+
+/// Whether the archive beside is from before request E6: its next free takes the
+/// wish for the slip and the slip for its length, which it refuses first of all.
+fn takes_no_wish() -> bool {
+    let call = Call::NextFree(0, ANY_NODE, NO_WISH);
+    Before::call(call, &mut Block::fresh(), &mut [0; 16]) == straight::BAD_SLIP
+}
+
+fn equal_left_out() {
+    println!(
+        "bench: equal left out: the archive beside is from before request E6, and has other \
+         rules for flags; the calls of the other parts are the same on both"
+    );
 }
 
 fn intake<Other: Side>() {

@@ -3,7 +3,9 @@
 use crate::library::Library;
 
 pub use straight::LENGTH;
-pub const ANY_NODE: u32 = u32::MAX;
+pub use straight::{ANY_NODE, HOTPLUG, MIRROR, NO_MAP};
+/// A wish for nothing in particular.
+pub const NO_WISH: u32 = 0;
 pub const TOP_DOWN: u32 = 0;
 pub const BOTTOM_UP: u32 = 1;
 
@@ -29,15 +31,17 @@ pub enum Call<'a> {
     Set(u64, u32),
     Add(u64, u64, u32, u32),
     Remove(u64, u64),
-    Mark(u64, u64),
-    Unmark(u64, u64),
+    /// Base, size, flag.
+    Mark(u64, u64, u32),
+    Unmark(u64, u64, u32),
     Reserve(u64, u64),
     Free(u64, u64),
     Trim(u64),
-    NextFree(u64, u32),
-    /// Size, alignment, start, end, node.
-    Find(u64, u64, u64, u64, u32),
-    Allocate(u64, u64, u64, u64, u32),
+    /// From, node, wish.
+    NextFree(u64, u32, u32),
+    /// Size, alignment, start, end, node, wish.
+    Find(u64, u64, u64, u64, u32, u32),
+    Allocate(u64, u64, u64, u64, u32, u32),
     /// The report's bytes.
     Intake(&'a [u8]),
 }
@@ -69,17 +73,17 @@ impl Side for Straight {
             Call::Set(limit, direction) => straight::set(b, limit, direction),
             Call::Add(base, size, flags, node) => straight::add(b, base, size, flags, node),
             Call::Remove(base, size) => straight::remove(b, base, size),
-            Call::Mark(base, size) => straight::mark(b, base, size),
-            Call::Unmark(base, size) => straight::unmark(b, base, size),
+            Call::Mark(base, size, flag) => straight::mark(b, base, size, flag),
+            Call::Unmark(base, size, flag) => straight::unmark(b, base, size, flag),
             Call::Reserve(base, size) => straight::reserve(b, base, size),
             Call::Free(base, size) => straight::free(b, base, size),
             Call::Trim(alignment) => straight::trim(b, alignment),
-            Call::NextFree(from, node) => straight::next_free(b, from, node, slip),
-            Call::Find(size, alignment, start, end, node) => {
-                straight::find(b, size, alignment, start, end, node, slip)
+            Call::NextFree(from, node, wish) => straight::next_free(b, from, node, wish, slip),
+            Call::Find(size, alignment, start, end, node, wish) => {
+                straight::find(b, size, alignment, start, end, node, wish, slip)
             }
-            Call::Allocate(size, alignment, start, end, node) => {
-                straight::allocate(b, size, alignment, start, end, node, slip)
+            Call::Allocate(size, alignment, start, end, node, wish) => {
+                straight::allocate(b, size, alignment, start, end, node, wish, slip)
             }
             Call::Intake(report) => straight::intake_e820(b, report),
         }

@@ -22,7 +22,7 @@ use Rattle.block.specs.declared.Layout.{Layout}
 use Rattle.block.specs.declared.Header.{Header}
 use Rattle.block.specs.Block.{current, capacity, offset, blockLength, Contents, listOf, headerBytes, headerOf, blockBytes, readHeader, part, contents, sameBytes, goodTable, goodContents, good}
 use Rattle.records.specs.Checks.{allZeros, goodPart, checkedTable}
-use Rattle.block.specs.Checks.{withTotals}
+use Rattle.block.specs.Checks.{withTotals, tallyOf}
 use Rattle.records.specs.declared.table.Checked.{Checked}
 use Rattle.records.specs.declared.table.Checked.the-variants.{Total, Bad}
 use Rattle.records.proofs.Zeros.{zeros-replicate, replicate-zeros}
@@ -147,6 +147,14 @@ module _ (L : Layout) (b : List ℕ) where
 
     pub good-length : length b ≡ blockLength L
     good-length = rw (← good-spelled) (block-length L (contents L b) good-contents)
+
+    -- the records that its header counts have room in their parts
+    pub counted-room : (k : Kind) → 24 * tallyOf (readHeader b) k .count ≤ length (part L k b)
+    unfolding contents
+    counted-room Memory =
+        omega (arith, part-length L b good-length Memory, room L (contents L b) good-contents Memory, read-regions-length (readHeader b .memory .count) (part L Memory b))
+    counted-room Taken =
+        omega (arith, part-length L b good-length Taken, room L (contents L b) good-contents Taken, read-regions-length (readHeader b .taken .count) (part L Taken b))
 
     -- a good table's part passes its check
     pub part-zeros : (k : Kind) (n : ℕ) → listOf (contents L b) k ≡ readRegions n (part L k b) → allZeros (drop (24 * n) (part L k b)) ≡ true

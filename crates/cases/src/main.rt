@@ -9,6 +9,8 @@ const TOP: u64 = 0xFFFF_FFFF_FFFF_FFFF;
 
 const ANY_NODE: u32 = 0xFFFF_FFFF;
 
+const NO_WISH: u32 = 0;
+
 fn say(text: &[u8]) {
     io::write_all(STDOUT_FILENO, text);
 }
@@ -147,7 +149,16 @@ fn find(block: &[u8], size: u64, alignment: u64) {
     let mut slip = [0xFFu8; 16];
     say(b"find");
     say_search(size, alignment);
-    let number = memblock::memblock_find(block, size, alignment, 0, 0, ANY_NODE, &mut slip);
+    let number = memblock::memblock_find(
+        block,
+        size,
+        alignment,
+        0,
+        0,
+        ANY_NODE,
+        NO_WISH,
+        &mut slip,
+    );
     say_slip(number, &slip);
 }
 
@@ -155,7 +166,16 @@ fn allocate(block: &mut [u8], size: u64, alignment: u64) {
     let mut slip = [0xFFu8; 16];
     say(b"allocate");
     say_search(size, alignment);
-    let number = memblock::memblock_allocate(block, size, alignment, 0, 0, ANY_NODE, &mut slip);
+    let number = memblock::memblock_allocate(
+        block,
+        size,
+        alignment,
+        0,
+        0,
+        ANY_NODE,
+        NO_WISH,
+        &mut slip,
+    );
     say_slip(number, &slip);
 }
 
@@ -163,7 +183,7 @@ fn next_free(block: &[u8], from: u64) {
     let mut slip = [0xFFu8; 16];
     say(b"next free from ");
     say_hex(from);
-    let number = memblock::memblock_next_free(block, from, ANY_NODE, &mut slip);
+    let number = memblock::memblock_next_free(block, from, ANY_NODE, NO_WISH, &mut slip);
     say_slip(number, &slip);
 }
 

@@ -3,7 +3,6 @@ use Prim.Native.Nat.{ℕ}
 use mathlib.Core.Path.{_≡_, refl, sym, ap, _∙_}
 use mathlib.Core.Bool.{Bool, true, false}
 use mathlib.Core.List.{List, [], _∷_, List·Memᴰ, List·Memᴰ·head, List·Memᴰ·tail, List·Memᴰ·not-nil}
-use lib.Dec.{lit<}
 use Rattle.address.proofs.Tests.{clash}
 use Rattle.regions.specs.declared.Kind.{Kind}
 use Rattle.regions.specs.declared.State.{State}
@@ -26,10 +25,10 @@ unfolding change
 change-twice (Add t) Absent = refl
 change-twice (Add t) (Present u) = refl
 change-twice Remove v = refl
-change-twice Mark Absent = refl
-change-twice Mark (Present t) = rw (set-twice 4 (lit< tt))
-change-twice Unmark Absent = refl
-change-twice Unmark (Present t) = rw (clear-twice 4 (lit< tt))
+change-twice (Mark f) Absent = refl
+change-twice (Mark f) (Present t) = rw (set-twice f)
+change-twice (Unmark f) Absent = refl
+change-twice (Unmark f) (Present t) = rw (clear-twice f)
 change-twice Reserve Absent = refl
 change-twice Reserve (Present u) = refl
 change-twice Free v = refl
@@ -40,10 +39,10 @@ unfolding change says legalTag
 change-says (Add t) Absent e = refl
 change-says (Add t) (Present u) e = refl
 change-says Remove v e = refl
-change-says Mark Absent e = refl
-change-says Mark (Present t) e = refl
-change-says Unmark Absent e = refl
-change-says Unmark (Present t) e = refl
+change-says (Mark f) Absent e = refl
+change-says (Mark f) (Present t) e = refl
+change-says (Unmark f) Absent e = refl
+change-says (Unmark f) (Present t) e = refl
 change-says Reserve Absent e = refl
 change-says Reserve (Present u) e = ap Present (same-true u (tag 0 0) e)
 change-says Free v e = refl

@@ -98,7 +98,7 @@ compute (toSet limit direction) s = result 0 (record { memory = s .memory; taken
 compute (toCommand c) s = kept s (table (c .verb)) (edited s (table (c .verb)) (changeOf (c .verb)) (c .base) (c .size)) [] []
 compute (toTrim align) s = result 0 (withList s Memory (roundEach align (s .memory))) []
 compute (toFind q slip) s = finds s (seek s q)
-compute (toNextFree from node slip) s = result 0 s []
+compute (toNextFree from node wish slip) s = result 0 s []
 compute (toAllocate q slip) s = takes s (q .size .0) (seek s q)
 compute (toIntake report) s = result 0 s []
 compute (toConvert old) s = result 0 s []
@@ -113,7 +113,7 @@ computable (toSet limit direction) = leb direction 1
 computable (toCommand c) = legalVerb (c .verb) && leb (c .base) 18446744073709551615
 computable (toTrim align) = powerOfTwo align
 computable (toFind q slip) = asks q slip
-computable (toNextFree from node slip) = false
+computable (toNextFree from node wish slip) = false
 computable (toAllocate q slip) = asks q slip
 computable (toIntake report) = false
 computable (toConvert old) = false
@@ -237,7 +237,7 @@ call-computed (toCommand c) s sp e =
     command-computed s sp c (p .0) (leb-true (c .base) 18446744073709551615 (p .1))
 call-computed (toTrim align) s sp e = trim-computed s sp align e
 call-computed (toFind q slip) s sp e = find-computed s sp q slip e
-call-computed (toNextFree from node slip) s sp e = absurd (zero-not-one cc)
+call-computed (toNextFree from node wish slip) s sp e = absurd (zero-not-one cc)
 call-computed (toAllocate q slip) s sp e = allocate-computed s sp q slip e
 call-computed (toIntake report) s sp e = absurd (zero-not-one cc)
 call-computed (toConvert old) s sp e = absurd (zero-not-one cc)

@@ -13,36 +13,44 @@ use Rattle.regions.proofs.Push.{same-true, same-self}
 use Rattle.tables.specs.declared.commands.Verb.{Verb}
 use Rattle.tables.specs.declared.commands.Verb.the-variants.{Add, Remove, Mark, Unmark, Reserve, Free}
 use Rattle.tables.specs.Commands.{Command}
-use Rattle.memblock.specs.Lists.{code, tagOf, sameCall, often, SameDone}
+use Rattle.memblock.specs.Lists.{code, tagOf, flagOf, sameVerb, sameCall, often, SameDone}
 
 -- ---- the same call is the same command
 
--- the command that a code and a tag stand for
-decode : ℕ → Tag → Verb
-decode n t = cond (eqb n 1) (Add t) (cond (eqb n 2) Remove (cond (eqb n 3) Mark (cond (eqb n 4) Unmark (cond (eqb n 5) Reserve Free))))
+-- the command that a code, a tag and a flag stand for
+decode : ℕ → Tag → ℕ → Verb
+decode n t f = cond (eqb n 1) (Add t) (cond (eqb n 2) Remove (cond (eqb n 3) (Mark f) (cond (eqb n 4) (Unmark f) (cond (eqb n 5) Reserve Free))))
 
-decode-code : (v : Verb) → decode (code v) (tagOf v) ≡ v
+decode-code : (v : Verb) → decode (code v) (tagOf v) (flagOf v) ≡ v
 unfolding decode
 decode-code (Add t) = refl
 decode-code Remove = refl
-decode-code Mark = refl
-decode-code Unmark = refl
+decode-code (Mark f) = refl
+decode-code (Unmark f) = refl
 decode-code Reserve = refl
 decode-code Free = refl
 
+same-verb : (v u : Verb) → sameVerb v u ≡ true → v ≡ u
+same-verb v u h =
+    let p = both (eqb (code v) (code u)) (sameTag (tagOf v) (tagOf u) && eqb (flagOf v) (flagOf u)) h in
+    let q = both (sameTag (tagOf v) (tagOf u)) (eqb (flagOf v) (flagOf u)) (p .1) in
+    let c = eqb-true (code v) (code u) (p .0) in
+    let t = same-true (tagOf v) (tagOf u) (q .0) in
+    let f = eqb-true (flagOf v) (flagOf u) (q .1) in
+    sym (decode-code v) ∙ (λ i. decode (c i) (t i) (f i)) ∙ decode-code u
+
 same-call : (d e : Command) → sameCall d e ≡ true → d ≡ e
 same-call d e h =
-    let p = both (eqb (code (d .verb)) (code (e .verb)) && sameTag (tagOf (d .verb)) (tagOf (e .verb))) (eqb (d .base) (e .base) && eqb (d .size) (e .size)) h in
-    let q = both (eqb (code (d .verb)) (code (e .verb))) (sameTag (tagOf (d .verb)) (tagOf (e .verb))) (p .0) in
-    let r = both (eqb (d .base) (e .base)) (eqb (d .size) (e .size)) (p .1) in
-    let c = eqb-true (code (d .verb)) (code (e .verb)) (q .0) in
-    let t = same-true (tagOf (d .verb)) (tagOf (e .verb)) (q .1) in
-    let v : d .verb ≡ e .verb = sym (decode-code (d .verb)) ∙ (λ i. decode (c i) (t i)) ∙ decode-code (e .verb) in
-    λ i. record { verb = v i; base = eqb-true (d .base) (e .base) (r .0) i; size = eqb-true (d .size) (e .size) (r .1) i }
+    let p = both (sameVerb (d .verb) (e .verb)) (eqb (d .base) (e .base) && eqb (d .size) (e .size)) h in
+    let q = both (eqb (d .base) (e .base)) (eqb (d .size) (e .size)) (p .1) in
+    let v = same-verb (d .verb) (e .verb) (p .0) in
+    λ i. record { verb = v i; base = eqb-true (d .base) (e .base) (q .0) i; size = eqb-true (d .size) (e .size) (q .1) i }
+
+verb-self : (v : Verb) → sameVerb v v ≡ true
+verb-self v = and (eq-eqb (code v) (code v) refl) (and (same-self (tagOf v)) (eq-eqb (flagOf v) (flagOf v) refl))
 
 call-self : (d : Command) → sameCall d d ≡ true
-call-self d =
-    and (and (eq-eqb (code (d .verb)) (code (d .verb)) refl) (same-self (tagOf (d .verb)))) (and (eq-eqb (d .base) (d .base) refl) (eq-eqb (d .size) (d .size) refl))
+call-self d = and (verb-self (d .verb)) (and (eq-eqb (d .base) (d .base) refl) (eq-eqb (d .size) (d .size) refl))
 
 -- ---- a call stands in a list exactly when it stands there some times
 

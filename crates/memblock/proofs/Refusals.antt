@@ -24,7 +24,7 @@ use Rattle.runs.specs.declared.Query.{Query}
 use Rattle.runs.specs.declared.fit.Place.{Place}
 use Rattle.runs.specs.declared.fit.Place.the-variants.{Here, Nowhere}
 use Rattle.search.specs.Search.{foundPlace, nextPlace}
-use Rattle.search.specs.Answers.{Answer, answer, refuse, unless as unlessAnswer, slipOf, withSlip, asking, nodeKnown, refusal, checkNumber, nextNumber, placeAnswer, find, allocate, allocateAnswer, reserved, nextFree}
+use Rattle.search.specs.Answers.{Answer, answer, refuse, unless as unlessAnswer, slipOf, withSlip, asking, askable, refusal, checkNumber, nextNumber, placeAnswer, find, allocate, allocateAnswer, reserved, nextFree}
 use Rattle.memblock.specs.Calls.{Call, toFresh, toSet, toCommand, toTrim, toFind, toNextFree, toAllocate, toIntake, toConvert, plain, answerOf}
 use Rattle.memblock.specs.Refusals.{slipLent, RefusalSentence, DoneSentence}
 
@@ -180,10 +180,11 @@ module _ (b slip : List ℕ) where
           let h : good current (o .block) ≡ true = rw g at (command-good b g (command Reserve (a .0) (q .size .0))) in
           reserving l (a .0) (run .end .0) o h
 
-  next-free-fair : (from node : ℕ) → Fair b slip (nextFree current from node b slip)
+  next-free-fair : (from node wish : ℕ) → Fair b slip (nextFree current from node wish b slip)
   unfolding nextFree
-  next-free-fair from node =
-      asking-fair (nextNumber current node b) _ (checks-good b (cond (nodeKnown node) 0 2)) (λ l g. place-fair l g (nextPlace (contents current b) from node))
+  next-free-fair from node wish =
+      asking-fair (nextNumber current node wish b) _ (checks-good b (cond (askable node wish) 0 2))
+      (λ l g. place-fair l g (nextPlace (contents current b) from node wish))
 
 -- ---- every call
 
@@ -194,7 +195,7 @@ fair (toSet limit direction) b = plain-fair b _ (set-fair b limit direction)
 fair (toCommand c) b = plain-fair b _ (command-fair b c)
 fair (toTrim align) b = plain-fair b _ (trim-fair b align)
 fair (toFind q slip) b = find-fair b slip q
-fair (toNextFree from node slip) b = next-free-fair b slip _ _
+fair (toNextFree from node wish slip) b = next-free-fair b slip _ _ _
 fair (toAllocate q slip) b = allocate-fair b slip q
 fair (toIntake report) b = plain-fair b _ (intake-fair b report)
 fair (toConvert old) b = plain-fair b _ (convert-fair b old)

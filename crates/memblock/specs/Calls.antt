@@ -20,7 +20,7 @@ pub data Call : Type 0 where
   toCommand : Command → Call
   toTrim : (align : ℕ) → Call
   toFind : Query → (slip : List ℕ) → Call
-  toNextFree : (from node : ℕ) → (slip : List ℕ) → Call
+  toNextFree : (from node wish : ℕ) → (slip : List ℕ) → Call
   toAllocate : Query → (slip : List ℕ) → Call
   toIntake : (report : List ℕ) → Call
   toConvert : (old : List ℕ) → Call
@@ -36,7 +36,7 @@ answerOf (toSet limit direction) b = plain (set current limit direction b)
 answerOf (toCommand c) b = plain (outcomeOf c b)
 answerOf (toTrim align) b = plain (trim current align b)
 answerOf (toFind q slip) b = find current q b slip
-answerOf (toNextFree from node slip) b = nextFree current from node b slip
+answerOf (toNextFree from node wish slip) b = nextFree current from node wish b slip
 answerOf (toAllocate q slip) b = allocate current q b slip
 answerOf (toIntake report) b = plain (intakeE820 current report b)
 answerOf (toConvert old) b = plain (convert old b)

@@ -38,7 +38,7 @@ abbrev pub AllHold : List Case → Type 0
 AllHold [] = Unit {0}
 AllHold (c ∷ cs) = Holds c × AllHold cs
 
--- ---- calls, by their numbers; what a case leaves unsaid is flags 0, node 0, start 0, end 0 and any node
+-- ---- calls, by their numbers; what a case leaves unsaid is flags 0, node 0, start 0, end 0, any node and no wish
 
 abbrev pub add : ℕ → ℕ → ℕ → Call
 add base size node = toCommand (command (Add (tag 0 node)) base size)
@@ -57,10 +57,10 @@ abbrev pub lent : List ℕ
 lent = replicate 16 255
 
 abbrev pub find : ℕ → ℕ → Call
-find size align = toFind (query size align 0 0 4294967295) lent
+find size align = toFind (query size align 0 0 4294967295 0) lent
 
 abbrev pub allocate : ℕ → ℕ → Call
-allocate size align = toAllocate (query size align 0 0 4294967295) lent
+allocate size align = toAllocate (query size align 0 0 4294967295 0) lent
 
 -- the slip of an address and the end of its free run (E5), of a refusal, and of a call that takes none
 abbrev pub gives : ℕ → ℕ → List ℕ

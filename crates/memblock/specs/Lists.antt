@@ -49,10 +49,10 @@ unfoldable pub says : Verb → State → State
 says (Add t) Absent = Present t
 says (Add t) (Present u) = Present u
 says Remove v = Absent
-says Mark Absent = Absent
-says Mark (Present t) = Present (tag (setFlag 4 (t .flags)) (t .node))
-says Unmark Absent = Absent
-says Unmark (Present t) = Present (tag (clearFlag 4 (t .flags)) (t .node))
+says (Mark w) Absent = Absent
+says (Mark w) (Present t) = Present (tag (setFlag w (t .flags)) (t .node))
+says (Unmark w) Absent = Absent
+says (Unmark w) (Present t) = Present (tag (clearFlag w (t .flags)) (t .node))
 says Reserve v = Present (tag 0 0)
 says Free v = Absent
 
@@ -63,27 +63,38 @@ pub record Stands (ds : List Command) (k : Kind) (a : ℕ) (start v : State) : T
 
 -- ---- the same commands done
 
--- which of the six, and add's tag
+-- which of the six, add's tag, and the flag that mark and unmark name (E6)
 abbrev pub code : Verb → ℕ
 code (Add t) = 1
 code Remove = 2
-code Mark = 3
-code Unmark = 4
+code (Mark w) = 3
+code (Unmark w) = 4
 code Reserve = 5
 code Free = 6
 
 abbrev pub tagOf : Verb → Tag
 tagOf (Add t) = t
 tagOf Remove = tag 0 0
-tagOf Mark = tag 0 0
-tagOf Unmark = tag 0 0
+tagOf (Mark w) = tag 0 0
+tagOf (Unmark w) = tag 0 0
 tagOf Reserve = tag 0 0
 tagOf Free = tag 0 0
 
+abbrev pub flagOf : Verb → ℕ
+flagOf (Add t) = 0
+flagOf Remove = 0
+flagOf (Mark w) = w
+flagOf (Unmark w) = w
+flagOf Reserve = 0
+flagOf Free = 0
+
+-- the same command with the same tag and the same flag named
+abbrev pub sameVerb : Verb → Verb → Bool
+sameVerb v u = eqb (code v) (code u) && (sameTag (tagOf v) (tagOf u) && eqb (flagOf v) (flagOf u))
+
 -- the same call with the same numbers
 abbrev pub sameCall : Command → Command → Bool
-sameCall d e =
-    (eqb (code (d .verb)) (code (e .verb)) && sameTag (tagOf (d .verb)) (tagOf (e .verb))) && (eqb (d .base) (e .base) && eqb (d .size) (e .size))
+sameCall d e = sameVerb (d .verb) (e .verb) && (eqb (d .base) (e .base) && eqb (d .size) (e .size))
 
 -- how often a call stands in a list
 unfoldable pub often : Command → List Command → ℕ

@@ -51,20 +51,20 @@ pub extern "C" fn memblock_remove(block: &mut [u8], base: u64, size: u64) -> u32
     on_range(block, Verb::Remove, Address(base), Size(size))
 }
 
-// Sets no-map on the range's addresses that are in memory.
+// Sets a flag (1 hotplug, 2 mirror, 4 no-map) on the range's addresses that are in memory.
 #[no_mangle]
-pub extern "C" fn memblock_mark(block: &mut [u8], base: u64, size: u64) -> u32
-    ensures { λ r. ⌜ answer r (now (block .exit)) [] ≡ answerOf (toCommand (command Mark base size)) (now (block .entry)) ⌝ }
+pub extern "C" fn memblock_mark(block: &mut [u8], base: u64, size: u64, flag: u32) -> u32
+    ensures { λ r. ⌜ answer r (now (block .exit)) [] ≡ answerOf (toCommand (command (Mark flag) base size)) (now (block .entry)) ⌝ }
 {
-    on_range(block, Verb::Mark, Address(base), Size(size))
+    on_range(block, Verb::Mark(flag), Address(base), Size(size))
 }
 
-// Clears no-map on them.
+// Clears it on them.
 #[no_mangle]
-pub extern "C" fn memblock_unmark(block: &mut [u8], base: u64, size: u64) -> u32
-    ensures { λ r. ⌜ answer r (now (block .exit)) [] ≡ answerOf (toCommand (command Unmark base size)) (now (block .entry)) ⌝ }
+pub extern "C" fn memblock_unmark(block: &mut [u8], base: u64, size: u64, flag: u32) -> u32
+    ensures { λ r. ⌜ answer r (now (block .exit)) [] ≡ answerOf (toCommand (command (Unmark flag) base size)) (now (block .entry)) ⌝ }
 {
-    on_range(block, Verb::Unmark, Address(base), Size(size))
+    on_range(block, Verb::Unmark(flag), Address(base), Size(size))
 }
 
 // Puts addresses into the taken set.
@@ -91,12 +91,18 @@ pub extern "C" fn memblock_trim(block: &mut [u8], alignment: u64) -> u32
     tables::commands::trim(block, Size(alignment))
 }
 
-// Writes the lowest free address at or above `from` of the node asked for, and the end of its free run. The block stays.
+// Writes the lowest free address at or above `from` of the node and the wish asked for, and the end of its free run. The block stays.
 #[no_mangle]
-pub extern "C" fn memblock_next_free(block: &[u8], from: u64, node: u32, slip: &mut [u8]) -> u32
-    ensures { λ r. ⌜ answer r (now (block .entry)) (now (slip .exit)) ≡ answerOf (toNextFree from node (now (slip .entry))) (now (block .entry)) ⌝ }
+pub extern "C" fn memblock_next_free(
+    block: &[u8],
+    from: u64,
+    node: u32,
+    wish: u32,
+    slip: &mut [u8],
+) -> u32
+    ensures { λ r. ⌜ answer r (now (block .entry)) (now (slip .exit)) ≡ answerOf (toNextFree from node wish (now (slip .entry))) (now (block .entry)) ⌝ }
 {
-    search::find::next_free(block, Address(from), node, slip)
+    search::find::next_free(block, Address(from), node, wish, slip)
 }
 
 // Writes the address found and the end of its free run. The block stays.
@@ -108,9 +114,10 @@ pub extern "C" fn memblock_find(
     start: u64,
     end: u64,
     node: u32,
+    wish: u32,
     slip: &mut [u8],
 ) -> u32
-    ensures { λ r. ⌜ answer r (now (block .entry)) (now (slip .exit)) ≡ answerOf (toFind (query size alignment start end node) (now (slip .entry))) (now (block .entry)) ⌝ }
+    ensures { λ r. ⌜ answer r (now (block .entry)) (now (slip .exit)) ≡ answerOf (toFind (query size alignment start end node wish) (now (slip .entry))) (now (block .entry)) ⌝ }
 {
     let q = Query {
         size: Size(size),
@@ -118,6 +125,7 @@ pub extern "C" fn memblock_find(
         start: Address(start),
         end: Address(end),
         node,
+        wish,
     };
     search::find::find(block, q, slip)
 }
@@ -131,9 +139,10 @@ pub extern "C" fn memblock_allocate(
     start: u64,
     end: u64,
     node: u32,
+    wish: u32,
     slip: &mut [u8],
 ) -> u32
-    ensures { λ r. ⌜ answer r (now (block .exit)) (now (slip .exit)) ≡ answerOf (toAllocate (query size alignment start end node) (now (slip .entry))) (now (block .entry)) ⌝ }
+    ensures { λ r. ⌜ answer r (now (block .exit)) (now (slip .exit)) ≡ answerOf (toAllocate (query size alignment start end node wish) (now (slip .entry))) (now (block .entry)) ⌝ }
 {
     let q = Query {
         size: Size(size),
@@ -141,6 +150,7 @@ pub extern "C" fn memblock_allocate(
         start: Address(start),
         end: Address(end),
         node,
+        wish,
     };
     search::allocate::allocate(block, q, slip)
 }

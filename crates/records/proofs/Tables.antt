@@ -1,12 +1,12 @@
 -- The bytes of a good list are a table. Assumes nothing.
 use Prim.Native.Nat.{ℕ, _*_, _-_, _≤_}
-use mathlib.Core.Path.{_≡_, refl}
-use mathlib.Core.Bool.{Bool, true, false, _||_}
+use mathlib.Core.Path.{_≡_}
+use mathlib.Core.Bool.{true}
 use mathlib.Core.List.{List, [], _∷_}
 use native.Mathlib.Omega.{arith}
 use lib.Dec.{leb, eqb}
 use lib.ListN.{length}
-use borrow.Author.Tests.{eqb-true}
+use borrow.Author.Tests.{leb-true, eqb-true}
 use Rattle.address.proofs.Tests.{both}
 use Rattle.regions.specs.declared.Kind.{Kind}
 use Rattle.regions.specs.declared.Kind.the-variants.{Memory, Taken}
@@ -21,11 +21,7 @@ use Rattle.records.specs.Steps.{AllFlagsBounded, Table}
 -- legal tags have few flags
 tag-flags-bounded : (k : Kind) (t : Tag) → legalTag k t ≡ true → t .flags ≤ 7
 unfolding legalTag
-tag-flags-bounded Memory t e = go (eqb (t .flags) 0) refl (both (eqb (t .flags) 0 || eqb (t .flags) 4) (leb (t .node) 63) e .0)
-  where
-    go : (b : Bool) → eqb (t .flags) 0 ≡ b → b || eqb (t .flags) 4 ≡ true → t .flags ≤ 7
-    go true f g = omega (arith, eqb-true (t .flags) 0 f)
-    go false f g = omega (arith, eqb-true (t .flags) 4 g)
+tag-flags-bounded Memory t e = leb-true (t .flags) 7 (both (leb (t .flags) 7) (leb (t .node) 63) e .0)
 tag-flags-bounded Taken t e = omega (arith, eqb-true (t .flags) 0 (both (eqb (t .flags) 0) (eqb (t .node) 0) e .0))
 
 legal-flags-bounded : (k : Kind) (xs : List Region) → legal k xs ≡ true → AllFlagsBounded xs

@@ -5,8 +5,8 @@ use mathlib.Core.Bool.{Bool, true, false, not, _&&_, and-false}
 use mathlib.Core.Logic.{_⊎_, inl, inr}
 use native.Mathlib.Omega.{arith}
 use native.Mathlib.Nat.{div-eq-of-lt}
-use lib.Dec.{ltb, eqb}
-use borrow.Author.Tests.{lt-ltb, le-ltb, le-leb, lt-leb, eq-eqb, ne-eqb}
+use lib.Dec.{leb, ltb, eqb}
+use borrow.Author.Tests.{lt-ltb, le-ltb, le-leb, lt-leb, eq-eqb, ne-eqb, eqb-true}
 use Rattle.address.proofs.Tests.{le-or-lt}
 use Rattle.regions.specs.declared.Tag.{Tag}
 use Rattle.regions.specs.declared.Region.{Region}
@@ -17,7 +17,7 @@ use Rattle.regions.specs.declared.Kind.the-variants.{Memory, Taken}
 use Rattle.regions.specs.declared.Change.{Change}
 use Rattle.regions.specs.declared.Change.the-variants.{Fill, Clear, Mark, Unmark}
 use Rattle.regions.specs.Meaning.{sameTag}
-use Rattle.regions.specs.Changes.{change, setFlag, clearFlag}
+use Rattle.regions.specs.Changes.{has, oneFlag, change, setFlag, clearFlag}
 use Rattle.regions.specs.Steps.{FlagBounded, FlagsBounded}
 use Rattle.regions.specs.Lists.{is, fits, legalTag}
 
@@ -31,21 +31,13 @@ module _ (t u : Tag) where
   same-node e = rw (eq-eqb (t .flags) (u .flags) e)
 
 module _ (k : Kind) (t : Tag) where
-  pub memory-node : k ≡ Memory → 63 < t .node → false ≡ legalTag k t
+  pub memory-flags : k ≡ Memory → 7 < t .flags → false ≡ legalTag k t
   unfolding legalTag
-  memory-node e h = rw (e, lt-leb (t .node) 63 h, and-false)
+  memory-flags e h = rw (e, lt-leb (t .flags) 7 h)
 
-  pub memory-plain : k ≡ Memory → t .node ≤ 63 → t .flags ≡ 0 → true ≡ legalTag k t
+  pub memory-node : k ≡ Memory → t .flags ≤ 7 → leb (t .node) 63 ≡ legalTag k t
   unfolding legalTag
-  memory-plain e h f = rw (e, le-leb (t .node) 63 h, eq-eqb (t .flags) 0 f)
-
-  pub memory-no-map : k ≡ Memory → t .node ≤ 63 → (t .flags ≡ 0 → ⊥) → eqb (t .flags) 4 ≡ legalTag k t
-  unfolding legalTag
-  memory-no-map e h f = rw (e, le-leb (t .node) 63 h, ne-eqb (t .flags) 0 f) (sym (whole (eqb (t .flags) 4)))
-    where
-      whole : (b : Bool) → b && true ≡ b
-      whole true = refl
-      whole false = refl
+  memory-node e h = rw (e, le-leb (t .flags) 7 h)
 
   pub taken-flags : k ≡ Taken → (t .flags ≡ 0 → ⊥) → false ≡ legalTag k t
   unfolding legalTag
@@ -93,29 +85,39 @@ module _ (c : ℕ) (v : State) (r : Region) where
 
 -- ---- flags
 
-module _ (w f : ℕ) where
-  pub flag-there : f / w % 2 ≡ 1 → f ≡ setFlag w f
-  flag-there e = rw (eq-eqb (f / w % 2) 1 e)
+module _ (w f : ℕ) (b : Bool) (q : b ≡ has w f) where
+  pub flag-there : b ≡ true → f ≡ setFlag w f
+  flag-there e = rw (← q, e)
 
-  pub flag-set : (f / w % 2 ≡ 1 → ⊥) → f + w ≡ setFlag w f
-  flag-set e = rw (ne-eqb (f / w % 2) 1 e)
+  pub flag-set : b ≡ false → f + w ≡ setFlag w f
+  flag-set e = rw (← q, e)
 
-  pub flag-cleared : f / w % 2 ≡ 1 → f - w ≡ clearFlag w f
-  flag-cleared e = rw (eq-eqb (f / w % 2) 1 e)
+  pub flag-cleared : b ≡ true → f - w ≡ clearFlag w f
+  flag-cleared e = rw (← q, e)
 
-  pub flag-gone : (f / w % 2 ≡ 1 → ⊥) → f ≡ clearFlag w f
-  flag-gone e = rw (ne-eqb (f / w % 2) 1 e)
+  pub flag-gone : b ≡ false → f ≡ clearFlag w f
+  flag-gone e = rw (← q, e)
 
   -- flags that have a flag are no less than its weight
-  pub flag-le : f / w % 2 ≡ 1 → w ≤ f
+  pub flag-le : b ≡ true → w ≤ f
   flag-le e = go (le-or-lt w f)
     where
       go : (w ≤ f) ⊎ (f < w) → w ≤ f
       go (inl h) = h
       go (inr h) =
           let z : f / w ≡ 0 = div-eq-of-lt h in
-          let y : 0 % 2 ≡ 1 = ap (λ (n : ℕ). n % 2) (sym z) ∙ e in
+          let y : 0 % 2 ≡ 1 = ap (λ (n : ℕ). n % 2) (sym z) ∙ eqb-true (f / w % 2) 1 (sym q ∙ e) in
           absurd (omega arith)
+
+module _ (w : ℕ) where
+  pub flag-hotplug : w ≡ 1 → true ≡ oneFlag w
+  flag-hotplug e = rw e
+
+  pub flag-mirror : w ≡ 2 → true ≡ oneFlag w
+  flag-mirror e = rw e
+
+  pub flag-no-map : (w ≡ 1 → ⊥) → (w ≡ 2 → ⊥) → eqb w 4 ≡ oneFlag w
+  flag-no-map f g = rw (ne-eqb w 1 f, ne-eqb w 2 g)
 
 -- ---- changes
 

@@ -9,7 +9,7 @@ use Rattle.regions.specs.declared.Tag.{Tag}
 use Rattle.regions.specs.declared.Region.{Region}
 use Rattle.regions.specs.declared.State.{State}
 use Rattle.regions.specs.declared.State.the-variants.{Absent, Present}
-use Rattle.regions.specs.Meaning.{at, top}
+use Rattle.regions.specs.Meaning.{Meaning, at, top}
 use Rattle.regions.specs.Changes.{has}
 use Rattle.regions.specs.Free.{usable, untaken, freeMemory, freeRuns}
 use Rattle.regions.proofs.Rises.{Canonical}
@@ -48,6 +48,9 @@ runs-at ms ts w a = go (le-or-lt top a)
     go (inr h) = at-shortest (freeMemory (at ms) (at ts)) top a h
 
 -- and what is free is memory
-pub free-memory : (ms ts : List Region) → Canonical top ms → (a : ℕ) (t : Tag) → at (freeRuns ms ts) a ≡ Present t → at ms a ≡ Present t
+pub free-is : (f g : Meaning) (a : ℕ) (t : Tag) → freeMemory f g a ≡ Present t → f a ≡ Present t
 unfolding freeMemory
-free-memory ms ts w a t e = usable-is (at ms a) t (untaken-is (usable (at ms a)) (at ts a) t (sym (runs-at ms ts w a) ∙ e))
+free-is f g a t e = usable-is (f a) t (untaken-is (usable (f a)) (g a) t e)
+
+pub free-memory : (ms ts : List Region) → Canonical top ms → (a : ℕ) (t : Tag) → at (freeRuns ms ts) a ≡ Present t → at ms a ≡ Present t
+free-memory ms ts w a t e = free-is (at ms) (at ts) a t (sym (runs-at ms ts w a) ∙ e)

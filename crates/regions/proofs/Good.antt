@@ -1,7 +1,7 @@
 -- A good list is a shortest list, and its total is the sum of its sizes. Assumes nothing.
 use Prim.Native.Nat.{ℕ, _^_, _<_}
-use mathlib.Core.Path.{_≡_, refl, ap, _∙_}
-use mathlib.Core.Bool.{Bool, true, false, _||_}
+use mathlib.Core.Path.{_≡_, ap, _∙_}
+use mathlib.Core.Bool.{true, false}
 use mathlib.Core.List.{List}
 use native.Mathlib.Omega.{arith}
 use lib.Dec.{leb, eqb}
@@ -41,12 +41,8 @@ rises-past c v n xs h = no (rises c v n xs) (λ e. let l = rises-end (rises-Rise
 legal-fits : (k : Kind) (t : Tag) → legalTag k t ≡ true → (t .flags < 2 ^ 32) × (t .node < 2 ^ 32)
 unfolding legalTag
 legal-fits Memory t e =
-    let p = both (eqb (t .flags) 0 || eqb (t .flags) 4) (leb (t .node) 63) e in
-    (go (eqb (t .flags) 0) refl (p .0), omega (arith, leb-true (t .node) 63 (p .1)))
-  where
-    go : (b : Bool) → eqb (t .flags) 0 ≡ b → b || eqb (t .flags) 4 ≡ true → t .flags < 2 ^ 32
-    go true f g = omega (arith, eqb-true (t .flags) 0 f)
-    go false f g = omega (arith, eqb-true (t .flags) 4 g)
+    let p = both (leb (t .flags) 7) (leb (t .node) 63) e in
+    (omega (arith, leb-true (t .flags) 7 (p .0)), omega (arith, leb-true (t .node) 63 (p .1)))
 legal-fits Taken t e =
     let p = both (eqb (t .flags) 0) (eqb (t .node) 0) e in
     (omega (arith, eqb-true (t .flags) 0 (p .0)), omega (arith, eqb-true (t .node) 0 (p .1)))

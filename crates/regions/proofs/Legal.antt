@@ -1,12 +1,11 @@
 -- A change of legal states into legal states makes a good list of a good list, and that list says the changed meaning. Assumes nothing.
 use Prim.Native.Nat.{ℕ, zero, suc, _+_, _≤_, _<_}
 use mathlib.Core.Path.{_≡_, refl, sym, _∙_}
-use mathlib.Core.Bool.{Bool, true, false, cond, _||_}
+use mathlib.Core.Bool.{Bool, true, false, cond}
 use mathlib.Core.List.{List, [], _∷_}
 use mathlib.Core.Logic.{_⊎_, inl, inr}
 use native.Mathlib.Omega.{arith}
-use lib.Dec.{leb, eqb}
-use borrow.Author.Tests.{eqb-true}
+use lib.Dec.{leb}
 use Rattle.address.proofs.Tests.{both, and, le-or-lt}
 use Rattle.regions.specs.declared.Tag.{Tag}
 use Rattle.regions.specs.declared.Region.{Region}
@@ -18,7 +17,8 @@ use Rattle.regions.specs.declared.Change.{Change}
 use Rattle.regions.specs.declared.Change.the-variants.{Fill, Clear, Mark, Unmark}
 use Rattle.regions.specs.Meaning.{Meaning, region, end, inside, at, joins, join, push, shortest, top}
 use Rattle.regions.specs.Lists.{legalTag, legal, goodList}
-use Rattle.regions.specs.Changes.{setFlag, clearFlag, change, after, cut, changed}
+use Rattle.regions.specs.Changes.{oneFlag, change, after, cut, changed}
+use Rattle.regions.proofs.Flags.{set-legal, clear-legal}
 use Rattle.regions.proofs.Rises.{Rises-rises}
 use Rattle.regions.proofs.RoundTrip.{canonical-shortest, at-shortest, at-shortest-above, rises-above, inside-past}
 use Rattle.regions.proofs.Good.{good-rises, good-legal}
@@ -78,27 +78,16 @@ pub clear-keeps : (k : Kind) → Keeps k Clear
 unfolding change
 clear-keeps k v e = refl
 
--- a flag word made of flags 0 and 4 that is 0 or 4 again
-flags-keep : (f : ℕ → ℕ) → (eqb (f 0) 0 || eqb (f 0) 4 ≡ true) → (eqb (f 4) 0 || eqb (f 4) 4 ≡ true)
-    → (t : Tag) → legalTag Memory t ≡ true → legalTag Memory (record { flags = f (t .flags); node = t .node }) ≡ true
-unfolding legalTag
-flags-keep f x y t e =
-    let p = both (eqb (t .flags) 0 || eqb (t .flags) 4) (leb (t .node) 63) e in
-    and (go (eqb (t .flags) 0) refl (p .0)) (p .1)
-  where
-    go : (b : Bool) → eqb (t .flags) 0 ≡ b → b || eqb (t .flags) 4 ≡ true → eqb (f (t .flags)) 0 || eqb (f (t .flags)) 4 ≡ true
-    go true h i = rw (eqb-true (t .flags) 0 h) x
-    go false h i = rw (eqb-true (t .flags) 4 i) y
+module _ (w : ℕ) (one : oneFlag w ≡ true) where
+  pub mark-keeps : Keeps Memory (Mark w)
+  unfolding change legalTag
+  mark-keeps Absent e = refl
+  mark-keeps (Present t) e = let p = both (leb (t .flags) 7) (leb (t .node) 63) e in and (set-legal w one (t .flags) (p .0)) (p .1)
 
-pub mark-keeps : Keeps Memory (Mark 4)
-unfolding change
-mark-keeps Absent e = refl
-mark-keeps (Present t) e = flags-keep (setFlag 4) refl refl t e
-
-pub unmark-keeps : Keeps Memory (Unmark 4)
-unfolding change
-unmark-keeps Absent e = refl
-unmark-keeps (Present t) e = flags-keep (clearFlag 4) refl refl t e
+  pub unmark-keeps : Keeps Memory (Unmark w)
+  unfolding change legalTag
+  unmark-keeps Absent e = refl
+  unmark-keeps (Present t) e = let p = both (leb (t .flags) 7) (leb (t .node) 63) e in and (clear-legal w one (t .flags) (p .0)) (p .1)
 
 -- ---- what a command makes of a good list
 

@@ -1,6 +1,6 @@
 -- The commands on a table, at one address and over a range. Assumes nothing.
 use Prim.Native.Nat.{ℕ, _+_, _-_, _/_, _%_, min}
-use mathlib.Core.Bool.{Bool, cond}
+use mathlib.Core.Bool.{Bool, cond, _||_}
 use mathlib.Core.List.{List}
 use lib.Dec.{eqb}
 use Rattle.regions.specs.declared.Region.{Region}
@@ -13,6 +13,10 @@ use Rattle.regions.specs.Meaning.{Meaning, inside, at, shortest, top}
 -- flags f have the flag of weight w (1, 2 or 4)
 abbrev pub has : ℕ → ℕ → Bool
 has w f = eqb (f / w % 2) 1
+
+-- E6's flags, one of the three: 1 hotplug, 2 mirror, 4 no-map
+abbrev pub oneFlag : ℕ → Bool
+oneFlag w = eqb w 1 || (eqb w 2 || eqb w 4)
 
 -- f with that flag, and without it
 abbrev pub setFlag : ℕ → ℕ → ℕ

@@ -1,6 +1,7 @@
 pub mod Meaning
 pub mod Lists
 pub mod Changes
+pub mod Flags
 pub mod Trim
 pub mod Free
 pub mod Runs

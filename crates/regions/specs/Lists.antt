@@ -1,6 +1,6 @@
 -- Which lists of regions may stand in a table: shortest lists, by their records, with legal tags. Assumes nothing.
 use Prim.Native.Nat.{ℕ}
-use mathlib.Core.Bool.{Bool, true, false, not, _&&_, _||_}
+use mathlib.Core.Bool.{Bool, true, false, not, _&&_}
 use mathlib.Core.List.{List, [], _∷_}
 use lib.Dec.{leb, ltb, eqb}
 use Rattle.regions.specs.declared.Tag.{Tag}
@@ -31,9 +31,9 @@ unfoldable pub sorted : ℕ → List Region → Bool
 sorted c [] = true
 sorted c (r ∷ rs) = leb c (r .base .0) && sorted (end r) rs
 
--- document 01's legal tags: in memory flags 0 or 4 and a node of 0 to 63, in the taken table 0, 0
+-- legal tags: in memory flags of 0 to 7 (E6) and a node of 0 to 63, in the taken table 0, 0
 unfoldable pub legalTag : Kind → Tag → Bool
-legalTag Memory t = (eqb (t .flags) 0 || eqb (t .flags) 4) && leb (t .node) 63
+legalTag Memory t = leb (t .flags) 7 && leb (t .node) 63
 legalTag Taken t = eqb (t .flags) 0 && eqb (t .node) 0
 
 unfoldable pub legal : Kind → List Region → Bool

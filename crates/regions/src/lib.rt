@@ -6,13 +6,13 @@ ghost use mathlib.Core.Path.{_≡_};
 ghost use Rattle.address.specs.Numbers.{address as checkedAddress};
 ghost use Rattle.regions.specs.Meaning.{end as endOf, joins as joinsAt, sameTag};
 ghost use Prim.Native.Nat.{_<_, _≤_};
-ghost use Rattle.regions.specs.Changes.{change, setFlag, clearFlag};
+ghost use Rattle.regions.specs.Changes.{has as hasFlag, oneFlag, change, setFlag, clearFlag};
 ghost use Rattle.regions.specs.Steps.{FlagBounded, FlagsBounded};
 ghost use Rattle.regions.specs.Lists.{is as isTag, legalTag};
 
 pub mod bytes;
 
-// What is told of an address beside its being there: flags (0, or 4 for no-map) and a node.
+// What is told of an address beside its being there: flags (a sum of 1 hotplug, 2 mirror, 4 no-map) and a node.
 pub struct Tag {
     pub flags: u32,
     pub node: u32,
@@ -51,6 +51,27 @@ pub enum Change {
     Unmark(u32),
 }
 
+// Whether flags `f` have the flag of weight `w`.
+pub fn has(w: u32, f: u32) -> bool
+    requires { ⌜ 0 < w ⌝ }
+    ensures { λ r. ⌜ r ≡ hasFlag w f ⌝ }
+{
+    f / w % 2 == 1
+}
+
+// Whether `w` is one of the three flags: 1 hotplug, 2 mirror, 4 no-map.
+pub fn one_flag(w: u32) -> bool
+    ensures { λ r. ⌜ r ≡ oneFlag w ⌝ }
+{
+    if w == 1 {
+        return true;
+    }
+    if w == 2 {
+        return true;
+    }
+    w == 4
+}
+
 impl Tag {
     pub fn same(self, other: Tag) -> bool
         ensures { λ r. ⌜ r ≡ sameTag self other ⌝ }
@@ -66,7 +87,7 @@ impl Tag {
         requires { ⌜ (0 < w) × ((w ≤ 4) × (self .flags ≤ 7)) ⌝ }
         ensures { λ r. ⌜ (r .flags ≡ setFlag w (self .flags)) × (r .node ≡ self .node) ⌝ }
     {
-        if self.flags / w % 2 == 1 {
+        if has(w, self.flags) {
             return self;
         }
         Tag {
@@ -80,7 +101,7 @@ impl Tag {
         requires { ⌜ 0 < w ⌝ }
         ensures { λ r. ⌜ (r .flags ≡ clearFlag w (self .flags)) × (r .node ≡ self .node) ⌝ }
     {
-        if self.flags / w % 2 == 1 {
+        if has(w, self.flags) {
             return Tag {
                 flags: self.flags - w,
                 node: self.node,
@@ -95,13 +116,10 @@ impl Tag {
     {
         match kind {
             Kind::Memory => {
-                if 63 < self.node {
+                if 7 < self.flags {
                     return false;
                 }
-                if self.flags == 0 {
-                    return true;
-                }
-                self.flags == 4
+                self.node <= 63
             }
             Kind::Taken => {
                 if self.flags != 0 {

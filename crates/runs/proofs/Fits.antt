@@ -1,11 +1,12 @@
 -- One stretch: the fits are the lowest and the highest address of it that is in the window, and the code's steps find them. Assumes nothing.
 use Prim.Native.Nat.{ℕ, _+_, _-_, _/_, _%_, _≤_, _<_, min, max}
 use mathlib.Core.Path.{_≡_, refl, sym, ap, _∙_}
-use mathlib.Core.Bool.{Bool, true, false, cond, _&&_}
+use mathlib.Core.Bool.{Bool, true, false, cond, not, _&&_, _||_, and-false, or-false}
 use mathlib.Core.Option.{none, some}
 use native.Mathlib.Omega.{arith}
+use native.Mathlib.Nat.{div-one}
 use lib.Dec.{leb, eqb}
-use borrow.Author.Tests.{le-leb, lt-leb, leb-true, leb-false, eq-eqb, ne-eqb, eqb-true}
+use borrow.Author.Tests.{le-leb, lt-leb, leb-true, leb-false, eq-eqb, ne-eqb, eqb-true, eqb-false}
 use Rattle.address.specs.Numbers.{address, difference, up, down, powerOfTwo}
 use Rattle.address.specs.declared.Address.{Address}
 use Rattle.address.specs.declared.CheckedAddress.{CheckedAddress}
@@ -14,11 +15,12 @@ use Rattle.address.proofs.Checked.{address-at, address-outside}
 use Rattle.address.proofs.Rounding.{up-ge, up-multiple, up-least, down-le, down-multiple, down-most}
 use Rattle.address.proofs.Powers.{power-some}
 use Rattle.regions.specs.declared.Region.{Region}
+use Rattle.regions.specs.Changes.{has}
 use Rattle.regions.specs.Runs.{runOf}
 use Rattle.runs.specs.declared.Query.{Query}
 use Rattle.regions.specs.declared.Run.{Run}
-use Rattle.runs.specs.Eligible.{onNode}
-use Rattle.runs.specs.Steps.{hitIn, spotOf, cutLow, cutHigh, serves, fitLow, fitHigh}
+use Rattle.runs.specs.Eligible.{asks}
+use Rattle.runs.specs.Steps.{hitIn, spotOf, cutLow, cutHigh, openTo, serves, fitLow, fitHigh}
 use Rattle.runs.specs.declared.Way.{Way}
 use Rattle.runs.specs.declared.Way.the-variants.{Up, Down}
 use Rattle.runs.proofs.Ways.{near, far, From, Nearer, within, fit}
@@ -109,17 +111,48 @@ module _ (q : Query) (some-size : 0 < q .size .0) (some-align : 0 < q .align .0)
         (omega arith, record { even = down-multiple (min hi (q .end .0) - q .size .0) (q .align .0) some-align; from = omega arith; to = omega arith; by = omega arith }))
         (λ a i f. let k = most a i f in (and (le-leb (q .size .0) (min hi (q .end .0)) (omega arith)) (le-leb (max lo (q .start .0)) x (omega arith)), λ l. omega arith))
 
--- ---- the code's steps: whether a record serves
+-- ---- the code's steps: whether flags are open to a wish, and a record serves
 
-module _ (node : ℕ) (r : Region) where
-  pub serves-no-map : r .tag .flags / 4 % 2 ≡ 1 → false ≡ serves (onNode node) r
-  serves-no-map e = rw (eq-eqb (r .tag .flags / 4 % 2) 1 e)
+-- one digit is no more than another exactly when the one is not 1 or the other is
+digit-le : (x y : ℕ) → x < 2 → y < 2 → leb x y ≡ not (eqb x 1) || eqb y 1
+digit-le x y h k = go (eqb x 1) (eqb y 1) refl refl
+  where
+    go : (a b : Bool) → eqb x 1 ≡ a → eqb y 1 ≡ b → leb x y ≡ not a || b
+    go true true e f = le-leb x y (omega (arith, eqb-true x 1 e, eqb-true y 1 f))
+    go true false e f = let d = eqb-false y 1 f in lt-leb x y (omega (arith, eqb-true x 1 e))
+    go false b e f = let d = eqb-false x 1 e in le-leb x y (omega arith)
 
-  pub serves-any : (r .tag .flags / 4 % 2 ≡ 1 → ⊥) → node ≡ 4294967295 → true ≡ serves (onNode node) r
-  serves-any e f = rw (ne-eqb (r .tag .flags / 4 % 2) 1 e, eq-eqb node 4294967295 f)
+module _ (wish flags : ℕ) where
+  hotplug-is : leb (flags % 2) (wish % 2) ≡ not (has 1 flags) || has 1 wish
+  hotplug-is = digit-le (flags % 2) (wish % 2) (omega arith) (omega arith) ∙ rw (div-one flags, div-one wish)
 
-  pub serves-node : (r .tag .flags / 4 % 2 ≡ 1 → ⊥) → (node ≡ 4294967295 → ⊥) → eqb (r .tag .node) node ≡ serves (onNode node) r
-  serves-node e f = rw (ne-eqb (r .tag .flags / 4 % 2) 1 e, ne-eqb node 4294967295 f)
+  mirror-is : leb (wish / 2 % 2) (flags / 2 % 2) ≡ not (has 2 wish) || has 2 flags
+  mirror-is = digit-le (wish / 2 % 2) (flags / 2 % 2) (omega arith) (omega arith)
+
+  pub open-plain : flags ≡ 0 → (b : Bool) → b ≡ has 2 wish → not b ≡ openTo wish flags
+  open-plain e b q = rw (e, ← q, or-false)
+
+  module _ (a : Bool) (x : a ≡ has 4 flags) where
+    pub open-no-map : a ≡ true → false ≡ openTo wish flags
+    open-no-map e = rw (← x, e)
+
+    module _ (e : a ≡ false) where
+      pub open-hotplug : wish % 2 < flags % 2 → false ≡ openTo wish flags
+      open-hotplug h = rw (← x, e, ← hotplug-is, lt-leb (flags % 2) (wish % 2) h)
+
+      pub open-mirror : flags % 2 ≤ wish % 2 → leb (wish / 2 % 2) (flags / 2 % 2) ≡ openTo wish flags
+      open-mirror h = rw (← x, e, ← hotplug-is, le-leb (flags % 2) (wish % 2) h) mirror-is
+
+module _ (q : Query) (r : Region) where
+  pub serves-other : (q .node ≡ 4294967295 → ⊥) → (r .tag .node ≡ q .node → ⊥) → false ≡ serves (asks q) r
+  serves-other n m = rw (ne-eqb (q .node) 4294967295 n, ne-eqb (r .tag .node) (q .node) m, and-false)
+
+  module _ (b : Bool) (x : b ≡ openTo (q .wish) (r .tag .flags)) where
+    pub serves-any : q .node ≡ 4294967295 → b ≡ serves (asks q) r
+    serves-any n = rw (eq-eqb (q .node) 4294967295 n) x
+
+    pub serves-node : (q .node ≡ 4294967295 → ⊥) → r .tag .node ≡ q .node → b ≡ serves (asks q) r
+    serves-node n m = rw (ne-eqb (q .node) 4294967295 n, eq-eqb (r .tag .node) (q .node) m) x
 
 -- ---- the lowest of a stretch
 

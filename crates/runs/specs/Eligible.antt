@@ -1,19 +1,20 @@
 -- Which addresses a search over free runs may give; the lowest and the highest number. Assumes nothing.
 use Prim.Native.Nat.{ℕ, zero, suc, _+_, _%_, _≤_, _<_}
 use mathlib.Core.Path.{_≡_}
-use mathlib.Core.Bool.{Bool, true, false, cond, _&&_, _||_}
+use mathlib.Core.Bool.{Bool, true, false, cond, not, _&&_, _||_}
 use mathlib.Core.List.{List}
 use mathlib.Core.Option.{Option, none, some}
 use lib.Dec.{leb, eqb}
 use Rattle.regions.specs.declared.Tag.{Tag}
 use Rattle.regions.specs.declared.Region.{Region}
+use Rattle.regions.specs.Changes.{has}
 use Rattle.regions.specs.Runs.{inOne}
 use Rattle.runs.specs.declared.Query.{Query}
 
 -- what a call asks for, by its numbers
-abbrev pub query : ℕ → ℕ → ℕ → ℕ → ℕ → Query
-query size align start end node =
-    record { size = record { 0 = size }; align = record { 0 = align }; start = record { 0 = start }; end = record { 0 = end }; node = node }
+abbrev pub query : ℕ → ℕ → ℕ → ℕ → ℕ → ℕ → Query
+query size align start end node wish =
+    record { size = record { 0 = size }; align = record { 0 = align }; start = record { 0 = start }; end = record { 0 = end }; node = node; wish = wish }
 
 -- ---- the lowest and the highest number below n at which p holds
 
@@ -40,12 +41,16 @@ Gives p beyond n (some a) = (p a ≡ true) × ((a < n) × ((b : ℕ) → b < n �
 abbrev pub asked : ℕ → ℕ → Bool
 asked node n = eqb node 4294967295 || eqb n node
 
--- a tag of the node asked for; and what a query asks of a tag
-abbrev pub onNode : ℕ → Tag → Bool
-onNode node t = asked node (t .node)
+-- E6's wish grants these flags: they are not hotplug (1), or the wish has 1; and the wish has not 2, or they are mirror (2)
+abbrev pub granted : ℕ → ℕ → Bool
+granted wish flags = (not (has 1 flags) || has 1 wish) && (not (has 2 wish) || has 2 flags)
+
+-- a tag of the node asked for, whose flags the wish grants; and what a query asks of a tag
+abbrev pub wanted : ℕ → ℕ → Tag → Bool
+wanted node wish t = asked node (t .node) && granted wish (t .flags)
 
 abbrev pub asks : Query → Tag → Bool
-asks q t = onNode (q .node) t
+asks q t = wanted (q .node) (q .wish) t
 
 -- document 01's eligible: a multiple of the alignment, start ≤ a, a + size ≤ end, and the size addresses from a in one free run
 unfoldable pub eligible : Query → List Region → ℕ → Bool

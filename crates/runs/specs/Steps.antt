@@ -22,10 +22,14 @@ use Rattle.runs.specs.declared.Query.{Query}
 use Rattle.runs.specs.declared.Way.{Way}
 use Rattle.runs.specs.declared.Way.the-variants.{Up, Down}
 use Rattle.runs.specs.declared.walk.Bounds.{Bounds}
-use Rattle.runs.specs.Eligible.{lowest, highest, eligible}
+use Rattle.runs.specs.Eligible.{lowest, highest, granted, eligible}
 use Rattle.runs.specs.Places.{Hit, hitOf}
 
 -- ---- one stretch
+
+-- flags that a search with this wish looks at: not no-map, and granted
+abbrev pub openTo : ℕ → ℕ → Bool
+openTo wish flags = not (has 4 flags) && granted wish flags
 
 -- a record whose addresses may lie in free runs whose tag passes
 abbrev pub serves : (Tag → Bool) → Region → Bool

@@ -4,11 +4,12 @@ use address::Address;
 use address::CheckedAddress;
 use regions::Region;
 use regions::Run;
+use regions::has;
 ghost use mathlib.Core.Path.{_≡_};
 ghost use mathlib.Core.Bool.{true};
 ghost use Rattle.address.specs.Numbers.{powerOfTwo};
-ghost use Rattle.runs.specs.Eligible.{onNode};
-ghost use Rattle.runs.specs.Steps.{spotOf, serves, cutLow, cutHigh};
+ghost use Rattle.runs.specs.Eligible.{asks};
+ghost use Rattle.runs.specs.Steps.{spotOf, openTo, serves, cutLow, cutHigh};
 
 // An address and the whole free run that it lies in.
 pub enum Place {
@@ -16,17 +17,34 @@ pub enum Place {
     Nowhere,
 }
 
-// Whether the record's addresses may lie in free runs of the node asked for: not no-map (flag 4), and of that node.
-pub fn serving(r: Region, node: u32) -> bool
-    ensures { λ b. ⌜ b ≡ serves (onNode node) r ⌝ }
+// Whether memory of these flags is open to the wish: not no-map, hotplug only if the wish has 1, and if it has 2 mirror only. Most memory has no flag.
+fn open(wish: u32, flags: u32) -> bool
+    ensures { λ b. ⌜ b ≡ openTo wish flags ⌝ }
 {
-    if r.tag.flags / 4 % 2 == 1 {
+    if flags == 0 {
+        return !has(2, wish);
+    }
+    if has(4, flags) {
         return false;
     }
-    if node == 0xFFFF_FFFF {
-        return true;
+    if wish % 2 < flags % 2 {
+        return false;
     }
-    r.tag.node == node
+    wish / 2 % 2 <= flags / 2 % 2
+}
+
+// Whether the record's addresses may lie in free runs that the query asks for: of its node, and open to its wish.
+pub fn serving(r: Region, q: Query) -> bool
+    ensures { λ b. ⌜ b ≡ serves (asks q) r ⌝ }
+{
+    let flags = r.tag.flags;
+    if q.node == 0xFFFF_FFFF {
+        return open(q.wish, flags);
+    }
+    if r.tag.node != q.node {
+        return false;
+    }
+    open(q.wish, flags)
 }
 
 // The lowest address that fits from `from` up to, not including, `to`.

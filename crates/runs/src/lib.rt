@@ -11,11 +11,12 @@ pub enum Way {
     Down,
 }
 
-// A size, an alignment, a window from `start` up to, not including, `end`, and a node (0xFFFFFFFF: any).
+// A size, an alignment, a window from `start` up to, not including, `end`, a node (0xFFFFFFFF: any) and a wish (1 allows hotplug memory, 2 demands mirror).
 pub struct Query {
     pub size: Size,
     pub align: Size,
     pub start: Address,
     pub end: Address,
     pub node: u32,
+    pub wish: u32,
 }

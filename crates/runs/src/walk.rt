@@ -117,7 +117,7 @@ fn walk_low(memory: &[u8], mcount: usize, taken: &[u8], tcount: usize, q: Query)
         }
         let r = get_region(memory, 24 * i);
         i += 1;
-        if serving(r, q.node) {
+        if serving(r, q) {
             let top = past(r);
             let hi = top.min(last);
             let mut low = r.base;
@@ -161,7 +161,7 @@ fn walk_high(memory: &[u8], mcount: usize, taken: &[u8], tcount: usize, q: Query
         }
         i -= 1;
         let r = get_region(memory, 24 * i);
-        if serving(r, q.node) {
+        if serving(r, q) {
             let bottom = r.base;
             let lo = bottom.max(first);
             let mut top = past(r);

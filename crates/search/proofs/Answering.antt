@@ -1,7 +1,7 @@
 -- The checks of a search, and the answers of find and next free, one by one. Assumes nothing.
 use Prim.Native.Nat.{ℕ, _+_, _-_, _≤_, _<_}
 use mathlib.Core.Path.{_≡_, refl, sym, ap, ap₂, _∙_}
-use mathlib.Core.Bool.{Bool, true, false, cond, not}
+use mathlib.Core.Bool.{Bool, true, false, cond, not, and-true, and-false}
 use mathlib.Core.List.{List, [], _++_, append-nil}
 use mathlib.Core.Option.{Option, none, some}
 use native.Mathlib.Omega.{arith}
@@ -25,7 +25,7 @@ use Rattle.regions.specs.declared.Run.{Run}
 use Rattle.runs.specs.declared.fit.Place.{Place}
 use Rattle.runs.specs.declared.fit.Place.the-variants.{Here, Nowhere}
 use Rattle.search.specs.Search.{window, runsOf, found, foundPlace, nextPlace}
-use Rattle.search.specs.Answers.{Answer, answer, refuse, slipOf, nodeKnown, checkNumber, nextNumber, asking, placeAnswer, find, nextFree}
+use Rattle.search.specs.Answers.{Answer, answer, refuse, slipOf, askable, checkNumber, nextNumber, asking, placeAnswer, find, nextFree}
 use Rattle.runs.specs.Places.{hitOf, placeOf}
 use Rattle.search.specs.Steps.{Ready, nextQuery, begun, Told}
 use Rattle.change.specs.Steps.{Vacant}
@@ -33,20 +33,23 @@ use Rattle.search.proofs.Found.{eligible-below, eligible-vacant, found-
 
 -- ---- the checks
 
-module _ (node : ℕ) where
-  pub known-low : node ≤ 63 → true ≡ nodeKnown node
-  known-low h = rw (le-leb node 63 h)
+module _ (node wish : ℕ) where
+  pub ask-wish : 3 < wish → false ≡ askable node wish
+  ask-wish w = rw (lt-leb wish 3 w, and-false)
 
-  pub known-any : 63 < node → eqb node 4294967295 ≡ nodeKnown node
-  known-any h = rw (lt-leb node 63 h)
+  pub ask-node : wish ≤ 3 → node ≤ 63 → true ≡ askable node wish
+  ask-node w h = rw (le-leb wish 3 w, le-leb node 63 h)
+
+  pub ask-any : wish ≤ 3 → 63 < node → eqb node 4294967295 ≡ askable node wish
+  ask-any w h = rw (le-leb wish 3 w, lt-leb node 63 h, and-true)
 
 module _ (L : Layout) (is : L ≡ current) (b : List ℕ) (q : Query) (g : Bool) (x : g ≡ good L b) where
   pub check-bad : not g ≡ true → 1 ≡ checkNumber current q b
   check-bad h = rw (bad-here L is b g x h)
 
-  module _ (h : not g ≡ false) (k : Bool) (y : k ≡ nodeKnown (q .node)) where
-    pub check-node : not k ≡ true → 2 ≡ checkNumber current q b
-    check-node i = rw (good-here L is b g x h, ← y, not-true k i)
+  module _ (h : not g ≡ false) (k : Bool) (y : k ≡ askable (q .node) (q .wish)) where
+    pub check-ask : not k ≡ true → 2 ≡ checkNumber current q b
+    check-ask i = rw (good-here L is b g x h, ← y, not-true k i)
 
     module _ (i : not k ≡ false) (p : Bool) (z : p ≡ powerOfTwo (q .align .0)) where
       pub check-power : not p ≡ true → 3 ≡ checkNumber current q b
@@ -59,7 +62,7 @@ module _ (L : Layout) (is : L ≡ current) (b : List ℕ) (q : Query) (g : Bool)
         pub check-fine : (q .size .0 ≡ 0 → ⊥) → 0 ≡ checkNumber current q b
         check-fine e = rw (good-here L is b g x h, ← y, not-false k i, ← z, not-false p j, ne-eqb (q .size .0) 0 e)
 
--- the number is 0 where the block is good, the node known, the alignment a power of two and the size not 0
+-- the number is 0 where the block is good, the node and the wish may be asked for, the alignment a power of two and the size not 0
 passed : (g k p z : Bool) → _≡_ {A = ℕ} (cond g (cond k (cond p (cond z 4 0) 3) 2) 1) 0 → ((g ≡ true) × (k ≡ true)) × ((p ≡ true) × (z ≡ false))
 passed false k p z e = absurd (omega arith)
 passed true false p z e = absurd (omega arith)
@@ -70,7 +73,7 @@ passed true true true false e = ((refl, refl), (refl, refl))
 -- what the number 0 says of a query and a block
 pub number-ready : (L : Layout) (b : List ℕ) (q : Query) → checkNumber L q b ≡ 0 → ((good L b ≡ true) × (powerOfTwo (q .align .0) ≡ true)) × (0 < q .size .0)
 number-ready L b q e =
-    let t = passed (good L b) (nodeKnown (q .node)) (powerOfTwo (q .align .0)) (eqb (q .size .0) 0) e in
+    let t = passed (good L b) (askable (q .node) (q .wish)) (powerOfTwo (q .align .0)) (eqb (q .size .0) 0) e in
     let z = eqb-false (q .size .0) 0 (t .1 .1) in
     ((t .0 .0, t .1 .0), omega arith)
 
@@ -172,21 +175,21 @@ module _ (b s : List ℕ) (q : Query) (n : ℕ) (z : List ℕ) (e : answer n b z
 -- ---- next free
 
 -- it makes the checks of find: 1 is a power of two, and a size of 1 is not 0
-next-checks : (b : List ℕ) (p : Address) (node : ℕ) → checkNumber current (nextQuery p node) b ≡ nextNumber current node b
-next-checks b p node = let e : powerOfTwo 1 ≡ true = power-of 64 0 (lit< tt) in rw e
+next-checks : (b : List ℕ) (p : Address) (node wish : ℕ) → checkNumber current (nextQuery p node wish) b ≡ nextNumber current node wish b
+next-checks b p node wish = let e : powerOfTwo 1 ≡ true = power-of 64 0 (lit< tt) in rw e
 
-module _ (b s : List ℕ) (p : Address) (node : ℕ) (q : Query) (k : q ≡ nextQuery p node) (n : ℕ) (z : List ℕ) (e : answer n b z ≡ begun (checkNumber current q b) b s) where
-  as-next : answer n b z ≡ begun (nextNumber current node b) b s
-  as-next = rw (k, next-checks b p node) at e
+module _ (b s : List ℕ) (p : Address) (node wish : ℕ) (q : Query) (k : q ≡ nextQuery p node wish) (n : ℕ) (z : List ℕ) (e : answer n b z ≡ begun (checkNumber current q b) b s) where
+  as-next : answer n b z ≡ begun (nextNumber current node wish b) b s
+  as-next = rw (k, next-checks b p node wish) at e
 
-  pub next-refused : (n ≡ 0 → ⊥) → answer n b z ≡ nextFree current (p .0) node b s
+  pub next-refused : (n ≡ 0 → ⊥) → answer n b z ≡ nextFree current (p .0) node wish b s
   unfolding nextFree
-  next-refused f = stopped (nextNumber current node b) b s n z as-next f (placeAnswer b (nextPlace (contents current b) (p .0) node))
+  next-refused f = stopped (nextNumber current node wish b) b s n z as-next f (placeAnswer b (nextPlace (contents current b) (p .0) node wish))
 
   pub next-good : n ≡ 0 → good current b ≡ true
   next-good f = begun-ready b s q n z e f .good
 
-  pub next-told : n ≡ 0 → (r : Place) → r ≡ nextPlace (contents current b) (p .0) node → (m : ℕ) (y : List ℕ) → Told r m y
-      → answer m b y ≡ nextFree current (p .0) node b s
+  pub next-told : n ≡ 0 → (r : Place) → r ≡ nextPlace (contents current b) (p .0) node wish → (m : ℕ) (y : List ℕ) → Told r m y
+      → answer m b y ≡ nextFree current (p .0) node wish b s
   unfolding nextFree
-  next-told f r o m y t = t b ∙ ap (placeAnswer b) o ∙ goes-on (nextNumber current node b) b s n z as-next f (placeAnswer b (nextPlace (contents current b) (p .0) node))
+  next-told f r o m y t = t b ∙ ap (placeAnswer b) o ∙ goes-on (nextNumber current node wish b) b s n z as-next f (placeAnswer b (nextPlace (contents current b) (p .0) node wish))

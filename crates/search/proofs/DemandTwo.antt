@@ -33,7 +33,7 @@ use Rattle.runs.specs.Eligible.{eligible, Gives}
 use Rattle.runs.specs.Places.{hitOf, placeOf}
 use Rattle.runs.proofs.Extremes.{lowest-gives}
 use Rattle.search.specs.Search.{window, runsOf, found, foundPlace, freeFrom, lowestFree, nextPlace}
-use Rattle.search.specs.Answers.{Answer, answer, refuse, slipOf, nodeKnown, checkNumber, nextNumber, asking, placeAnswer, find, reserved, allocateAnswer, allocate, nextFree}
+use Rattle.search.specs.Answers.{Answer, answer, refuse, slipOf, askable, checkNumber, nextNumber, asking, placeAnswer, find, reserved, allocateAnswer, allocate, nextFree}
 use Rattle.search.specs.DemandTwo.{Eligible, FreeFrom, Best, Passed, Searched, Beyond, OrFull, LooksEligible, FindSentence, AllocateSentence, NextFreeSentence}
 use Rattle.search.proofs.Answering.{number-ready, slip-first, fine}
 use Rattle.search.proofs.Eligible.{passes-eligible, eligible-ends, eligible-passes, passes-free, free-ends, free-passes}
@@ -107,11 +107,11 @@ module _ (n : ℕ) (b slip : List ℕ) (a : Answer) where
                 subst (Best E beyond) (sym k) (m .best)
 
 -- what a search answers for each case of Place: 5, or another number, and where that is 0 the slip's first number is the address
-record Answers (done : ℕ → Type 0) (answers : Place → Answer) : Type 0 where
-  nowhere : answers Nowhere .number ≡ 5
-  here : (a : Address) (r : Run) → done (answers (Here a r) .number)
-  other : done 5 → ⊥
-  first : (a : Address) (r : Run) → a .0 < top → answers (Here a r) .number ≡ 0 → number 8 (answers (Here a r) .slip) ≡ a .0
+pub record Answers (done : ℕ → Type 0) (answers : Place → Answer) : Type 0 where
+  pub nowhere : answers Nowhere .number ≡ 5
+  pub here : (a : Address) (r : Run) → done (answers (Here a r) .number)
+  pub other : done 5 → ⊥
+  pub first : (a : Address) (r : Run) → a .0 < top → answers (Here a r) .number ≡ 0 → number 8 (answers (Here a r) .slip) ≡ a .0
 
 -- E holds where a test passes, all below the top, and the best that passes is answered
 module _ (E : ℕ → Type 0) (test : ℕ → Bool) (passes : (x : ℕ) → test x ≡ true → E x) (holds : (x : ℕ) → E x → (test x ≡ true) × (x < top)) where
@@ -132,7 +132,7 @@ memory-rises L b g = good-rises Memory (contents L b .memory) (lists-ok L (conte
 -- ---- find and allocate
 
 pub check-low : (L : Layout) (q : Query) (b : List ℕ) → checkNumber L q b ≤ 4
-check-low L q b = go (good L b) (nodeKnown (q .node)) (powerOfTwo (q .align .0)) (eqb (q .size .0) 0)
+check-low L q b = go (good L b) (askable (q .node) (q .wish)) (powerOfTwo (q .align .0)) (eqb (q .size .0) 0)
   where
     go : (g k p z : Bool) → cond g (cond k (cond p (cond z 4 0) 3) 2) 1 ≤ 4
     go false k p z = omega arith
@@ -160,7 +160,7 @@ module _ (L : Layout) (q : Query) (b slip : List ℕ) (done : ℕ → Type 0) (a
       (check-low L q b) found-answered
 
 -- so find and next free answer
-place-answers : (b : List ℕ) → Answers (λ n. n ≡ 0) (placeAnswer b)
+pub place-answers : (b : List ℕ) → Answers (λ n. n ≡ 0) (placeAnswer b)
 place-answers b = record { nowhere = refl; here = λ a r. refl; other = λ e. omega arith; first = λ a r l e. slip-first (a .0) (r .end .0) l }
 
 pub find-sentence : FindSentence
@@ -176,7 +176,7 @@ stored L k xs b = go (leb (length xs) (capacity L k))
     go true = inl refl
     go false = inr refl
 
-allocate-answers : (L : Layout) (b : List ℕ) (size : ℕ) → Answers OrFull (allocateAnswer L b size)
+pub allocate-answers : (L : Layout) (b : List ℕ) (size : ℕ) → Answers OrFull (allocateAnswer L b size)
 allocate-answers L b size = record { nowhere = refl; here = λ a r. here (a .0) (r .end .0) (taking (a .0)) (stored L Taken _ b); other = other; first = λ a r l e. first (a .0) (r .end .0) (taking (a .0)) l e }
   where
     taking : ℕ → Outcome
@@ -218,10 +218,10 @@ next-checked false k e = absurd (omega arith)
 
 pub next-free-sentence : NextFreeSentence
 unfolding nextFree nextPlace lowestFree
-next-free-sentence L p node b slip =
+next-free-sentence L p node wish b slip =
     let s = contents L b in
-    let a = placeAnswer b (nextPlace s p node) in
-    searched (nextNumber L node b) b slip a (FreeFrom s p node) (λ y x. y < x) (λ n. n ≡ 0) (next-low (good L b) (nodeKnown node))
-    (λ d. let w = memory-rises L b (next-checked (good L b) (nodeKnown node) (d .fine)) in
-    answered (FreeFrom s p node) (freeFrom p node (runsOf s)) (passes-free s p node) (λ x e. (free-passes s p node x w e, free-ends s p node x w e)) (λ y x. y < x) (λ n. n ≡ 0)
-    (placeAnswer b) (place-answers b) (runAt (runsOf s)) (lowestFree s p node) (lowest-gives (freeFrom p node (runsOf s)) top))
+    let a = placeAnswer b (nextPlace s p node wish) in
+    searched (nextNumber L node wish b) b slip a (FreeFrom s p node wish) (λ y x. y < x) (λ n. n ≡ 0) (next-low (good L b) (askable node wish))
+    (λ d. let w = memory-rises L b (next-checked (good L b) (askable node wish) (d .fine)) in
+    answered (FreeFrom s p node wish) (freeFrom p node wish (runsOf s)) (passes-free s p node wish) (λ x e. (free-passes s p node wish x w e, free-ends s p node wish x w e)) (λ y x. y < x) (λ n. n ≡ 0)
+    (placeAnswer b) (place-answers b) (runAt (runsOf s)) (lowestFree s p node wish) (lowest-gives (freeFrom p node wish (runsOf s)) top))

@@ -18,7 +18,7 @@ use Rattle.regions.proofs.RoundTrip.{rises-above}
 use Rattle.regions.proofs.Lying.{in-one-run, one-run-in}
 use Rattle.block.specs.Block.{Contents}
 use Rattle.runs.specs.declared.Query.{Query}
-use Rattle.runs.specs.Eligible.{onNode, asks, eligible, Lies}
+use Rattle.runs.specs.Eligible.{wanted, asks, eligible, Lies}
 use Rattle.runs.proofs.Eligible.{eligible-lies, lies-eligible}
 use Rattle.search.specs.Search.{windowStart, window, runsOf, freeFrom}
 use Rattle.search.specs.DemandTwo.{freeIn, Eligible, FreeFrom}
@@ -80,20 +80,20 @@ module _ (s : Contents) (q : Query) (pos : 0 < q .size .0) (a : ℕ) where
 
 -- ---- next free
 
-module _ (s : Contents) (p node a : ℕ) where
-  pub passes-free : freeFrom p node (runsOf s) a ≡ true → FreeFrom s p node a
+module _ (s : Contents) (p node wish a : ℕ) where
+  pub passes-free : freeFrom p node wish (runsOf s) a ≡ true → FreeFrom s p node wish a
   unfolding freeRuns
   passes-free e =
-      let t = both (leb p a) (inOne (onNode node) 1 a (runsOf s)) e in
-      let o = one-run-in (freeIn s) (onNode node) 1 a (omega arith) (t .1) .1 in
+      let t = both (leb p a) (inOne (wanted node wish) 1 a (runsOf s)) e in
+      let o = one-run-in (freeIn s) (wanted node wish) 1 a (omega arith) (t .1) .1 in
       record { from = leb-true p a (t .0); tag = o .tag; asked = o .right; present = o .all a (omega arith) (omega arith) }
 
-  module _ (w : Canonical top (s .memory)) (o : FreeFrom s p node a) where
+  module _ (w : Canonical top (s .memory)) (o : FreeFrom s p node wish a) where
     pub free-ends : a < top
     free-ends = free-below s w a (o .tag) (o .present)
 
-    pub free-passes : freeFrom p node (runsOf s) a ≡ true
+    pub free-passes : freeFrom p node wish (runsOf s) a ≡ true
     unfolding freeRuns
     free-passes =
-        let t : OneTag (freeIn s) (onNode node) 1 a = record { tag = o .tag; right = o .asked; all = λ b i j. let e : b ≡ a = omega arith in ap (freeIn s) e ∙ o .present } in
-        and (le-leb p a (o .from)) (in-one-run (freeIn s) (onNode node) 1 a (omega arith) (omega (arith, free-ends)) t)
+        let t : OneTag (freeIn s) (wanted node wish) 1 a = record { tag = o .tag; right = o .asked; all = λ b i j. let e : b ≡ a = omega arith in ap (freeIn s) e ∙ o .present } in
+        and (le-leb p a (o .from)) (in-one-run (freeIn s) (wanted node wish) 1 a (omega arith) (omega (arith, free-ends)) t)

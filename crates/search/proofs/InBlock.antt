@@ -14,18 +14,17 @@ use Rattle.regions.specs.declared.Kind.the-variants.{Memory, Taken}
 use Rattle.regions.specs.declared.Region.{Region}
 use Rattle.regions.specs.Meaning.{top, top-is}
 use Rattle.regions.specs.Bytes.{readRegions}
-use Rattle.regions.proofs.Records.{read-regions-length}
 use Rattle.block.specs.declared.Layout.{Layout}
 use Rattle.block.specs.declared.Header.{Header}
 use Rattle.block.specs.Block.{current, capacity, offset, blockLength, Contents, readHeader, part, contents, good}
-use Rattle.block.proofs.Blocks.{part-length, room, lists-ok, good-contents, good-length}
+use Rattle.block.proofs.Blocks.{lists-ok, good-contents, good-length, counted-room}
 use Rattle.regions.specs.Runs.{inOne}
 use Rattle.runs.specs.declared.Query.{Query}
 use Rattle.runs.specs.declared.Way.{Way}
 use Rattle.runs.specs.declared.Way.the-variants.{Up, Down}
 use Rattle.search.specs.declared.seek.Parts.{Parts}
 use Rattle.runs.specs.declared.fit.Place.{Place}
-use Rattle.runs.specs.Eligible.{onNode, eligible}
+use Rattle.runs.specs.Eligible.{wanted, eligible}
 use Rattle.runs.specs.Places.{placeOf}
 use Rattle.runs.specs.Steps.{Searchable, firstIn}
 use Rattle.search.specs.Search.{boundedEnd, window, windowEnd, runsOf, found, foundPlace, freeFrom, lowestFree, nextPlace}
@@ -35,7 +34,7 @@ use Rattle.runs.proofs.Stretches.{lowest-agree}
 -- ---- the window
 
 abbrev between : Query → Address → Address → Query
-between q start end = record { size = q .size; align = q .align; start = start; end = end; node = q .node }
+between q start end = record { size = q .size; align = q .align; start = start; end = end; node = q .node; wish = q .wish }
 
 module _ (limit end : ℕ) where
   pub bounded-limit : end ≡ 0 → limit ≡ boundedEnd limit end
@@ -63,13 +62,11 @@ module _ (b : List ℕ) (q : Query) (p : Ready b q) where
   unfolding contents capacity offset
   parts =
       let g = good-contents current b (p .good) in
-      let m = part-length current b whole Memory in
-      let t = part-length current b whole Taken in
       record {
         size = p .size;
         align = p .align;
-        room-memory = omega (arith, m, room current (contents current b) g Memory, read-regions-length (readHeader b .memory .count) (part current Memory b));
-        room-taken = omega (arith, t, room current (contents current b) g Taken, read-regions-length (readHeader b .taken .count) (part current Taken b));
+        room-memory = counted-room current b (p .good) Memory;
+        room-taken = counted-room current b (p .good) Taken;
         good-memory = lists-ok current (contents current b) g Memory;
         good-taken = lists-ok current (contents current b) g Taken;
       }
@@ -135,23 +132,23 @@ find-first Down b q h r w e d f i =
 
 -- ---- next free
 
-pub next-ready : (b : List ℕ) (p : Address) (node : ℕ) (q : Query) → q ≡ nextQuery p node → good current b ≡ true → Ready b q
+pub next-ready : (b : List ℕ) (p : Address) (node wish : ℕ) (q : Query) → q ≡ nextQuery p node wish → good current b ≡ true → Ready b q
 unfolding powerBelow
-next-ready b p node q e g = rw e (record { good = g; size = omega arith; align = refl })
+next-ready b p node wish q e g = rw e (record { good = g; size = omega arith; align = refl })
 
 -- an address is eligible for it exactly when it is free, from p on
-next-eligible : (p : Address) (node : ℕ) (runs : List Region) (a : ℕ) → a < top → eligible (nextQuery p node) runs a ≡ freeFrom (p .0) node runs a
+next-eligible : (p : Address) (node wish : ℕ) (runs : List Region) (a : ℕ) → a < top → eligible (nextQuery p node wish) runs a ≡ freeFrom (p .0) node wish runs a
 unfolding eligible
-next-eligible p node runs a h =
+next-eligible p node wish runs a h =
     let f : a + 1 ≤ 18446744073709551615 = omega (arith, top-is) in
     rw (mod-one a, le-leb (a + 1) 18446744073709551615 f) (go (leb (p .0) a))
   where
-    go : (t : Bool) → (t && true) && inOne (onNode node) 1 a runs ≡ t && inOne (onNode node) 1 a runs
+    go : (t : Bool) → (t && true) && inOne (wanted node wish) 1 a runs ≡ t && inOne (wanted node wish) 1 a runs
     go true = refl
     go false = refl
 
-pub next-found : (s : Contents) (p : Address) (node : ℕ) (q : Query) → q ≡ nextQuery p node → (f : Place) → f ≡ firstOf Up s q → f ≡ nextPlace s (p .0) node
+pub next-found : (s : Contents) (p : Address) (node wish : ℕ) (q : Query) → q ≡ nextQuery p node wish → (f : Place) → f ≡ firstOf Up s q → f ≡ nextPlace s (p .0) node wish
 unfolding firstIn nextPlace lowestFree
-next-found s p node q e f i =
-    let k = lowest-agree (eligible (nextQuery p node) (runsOf s)) (freeFrom (p .0) node (runsOf s)) top (next-eligible p node (runsOf s)) in
+next-found s p node wish q e f i =
+    let k = lowest-agree (eligible (nextQuery p node wish) (runsOf s)) (freeFrom (p .0) node wish (runsOf s)) top (next-eligible p node wish (runsOf s)) in
     rw (e, k) at i

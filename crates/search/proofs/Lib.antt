@@ -6,3 +6,4 @@ pub mod Found
 pub mod InBlock
 pub mod Reserving
 pub mod RunEnd
+pub mod Wishes

@@ -23,12 +23,12 @@ use Rattle.regions.proofs.Rises.{Canonical}
 use Rattle.regions.proofs.RoundTrip.{canonical-shortest}
 use Rattle.block.specs.Block.{Contents, contents, good}
 use Rattle.runs.specs.declared.Query.{Query}
-use Rattle.runs.specs.Eligible.{onNode, asks, eligible, Gives}
+use Rattle.runs.specs.Eligible.{wanted, asks, eligible, Gives}
 use Rattle.runs.specs.Places.{hitOf, placeOf}
 use Rattle.runs.proofs.Eligible.{eligible-lies}
 use Rattle.runs.proofs.Extremes.{lowest-gives}
 use Rattle.search.specs.Search.{window, runsOf, found, foundPlace, freeFrom, lowestFree, nextPlace}
-use Rattle.search.specs.Answers.{Answer, slipOf, nodeKnown, checkNumber, nextNumber, asking, placeAnswer, find, allocate, nextFree}
+use Rattle.search.specs.Answers.{Answer, slipOf, askable, checkNumber, nextNumber, asking, placeAnswer, find, allocate, nextFree}
 use Rattle.search.specs.DemandTwo.{freeIn, Passed, Beyond, LooksThenReserves}
 use Rattle.search.specs.RunEnd.{RunTo, NamesRun, FindRunSentence, AllocateRunSentence, NextFreeRunSentence}
 use Rattle.search.proofs.Answering.{number-ready, slip-first, slip-second}
@@ -100,11 +100,11 @@ find-run-sentence L q b slip e =
 
 pub next-free-run-sentence : NextFreeRunSentence
 unfolding nextFree nextPlace lowestFree
-next-free-run-sentence L p node b slip e =
+next-free-run-sentence L p node wish b slip e =
     let s = contents L b in
-    names (nextNumber L node b) b slip (next-low (good L b) (nodeKnown node)) s (onNode node) 1 (freeFrom p node (runsOf s)) (λ y x. y < x)
-    (λ d. (memory-rises L b (next-checked (good L b) (nodeKnown node) (d .fine)), omega arith)) (λ x t. both (leb p x) (inOne (onNode node) 1 x (runsOf s)) t .1)
-    (lowestFree s p node) (lowest-gives (freeFrom p node (runsOf s)) top) e
+    names (nextNumber L node wish b) b slip (next-low (good L b) (askable node wish)) s (wanted node wish) 1 (freeFrom p node wish (runsOf s)) (λ y x. y < x)
+    (λ d. (memory-rises L b (next-checked (good L b) (askable node wish) (d .fine)), omega arith)) (λ x t. both (leb p x) (inOne (wanted node wish) 1 x (runsOf s)) t .1)
+    (lowestFree s p node wish) (lowest-gives (freeFrom p node wish (runsOf s)) top) e
 
 -- what allocate writes is what find writes, of the block before the call
 pub allocate-run-sentence : AllocateRunSentence

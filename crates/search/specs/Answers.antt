@@ -1,6 +1,6 @@
 -- What find, next free and allocate answer and leave, for all inputs: refusals in document 01's order. Assumes nothing.
 use Prim.Native.Nat.{ℕ}
-use mathlib.Core.Bool.{Bool, cond, _||_}
+use mathlib.Core.Bool.{Bool, cond, _&&_, _||_}
 use mathlib.Core.List.{List, _++_}
 use lib.Dec.{leb, eqb}
 use lib.ListN.{length, replicate}
@@ -40,21 +40,21 @@ slipOf x y = bytes 8 x ++ bytes 8 y
 abbrev pub withSlip : List ℕ → List ℕ → Answer → Answer
 withSlip b slip a = cond (eqb (length slip) 16) a (answer 8 b slip)
 
--- a node of 0 to 63, or any
-abbrev pub nodeKnown : ℕ → Bool
-nodeKnown node = leb node 63 || eqb node 4294967295
+-- a node of 0 to 63, or any, and a wish of 0 to 3
+abbrev pub askable : ℕ → ℕ → Bool
+askable node wish = (leb node 63 || eqb node 4294967295) && leb wish 3
 
 -- the number that a query's own numbers get, in document 01's order: 2, 3 or 4; 0, if they pass
 abbrev pub refusal : Query → ℕ
-refusal q = cond (nodeKnown (q .node)) (cond (powerOfTwo (q .align .0)) (cond (eqb (q .size .0) 0) 4 0) 3) 2
+refusal q = cond (askable (q .node) (q .wish)) (cond (powerOfTwo (q .align .0)) (cond (eqb (q .size .0) 0) 4 0) 3) 2
 
 -- the number of the checks that find and allocate share: the block comes first
 abbrev pub checkNumber : Layout → Query → List ℕ → ℕ
 checkNumber L q b = cond (good L b) (refusal q) 1
 
 -- the number of next free's checks
-abbrev pub nextNumber : Layout → ℕ → List ℕ → ℕ
-nextNumber L node b = cond (good L b) (cond (nodeKnown node) 0 2) 1
+abbrev pub nextNumber : Layout → ℕ → ℕ → List ℕ → ℕ
+nextNumber L node wish b = cond (good L b) (cond (askable node wish) 0 2) 1
 
 -- the answer a, once the slip and the checks, whose number is n, have passed
 abbrev pub asking : ℕ → List ℕ → List ℕ → Answer → Answer
@@ -79,5 +79,5 @@ allocateAnswer L b size (Here a run) = reserved b (a .0) (run .end .0) (changeRa
 unfoldable pub allocate : Layout → Query → List ℕ → List ℕ → Answer
 allocate L q b slip = asking (checkNumber L q b) b slip (allocateAnswer L b (q .size .0) (foundPlace (contents L b) q))
 
-unfoldable pub nextFree : Layout → ℕ → ℕ → List ℕ → List ℕ → Answer
-nextFree L p node b slip = asking (nextNumber L node b) b slip (placeAnswer b (nextPlace (contents L b) p node))
+unfoldable pub nextFree : Layout → ℕ → ℕ → ℕ → List ℕ → List ℕ → Answer
+nextFree L p node wish b slip = asking (nextNumber L node wish b) b slip (placeAnswer b (nextPlace (contents L b) p node wish))

@@ -17,7 +17,7 @@ use Rattle.block.specs.Block.{Contents, contents}
 use Rattle.tables.specs.declared.commands.Verb.the-variants.{Reserve}
 use Rattle.tables.specs.Commands.{Outcome, command, commandOutcome}
 use Rattle.runs.specs.declared.Query.{Query}
-use Rattle.runs.specs.Eligible.{onNode, asks}
+use Rattle.runs.specs.Eligible.{wanted, asks}
 use Rattle.search.specs.Answers.{Answer, checkNumber, nextNumber, find, allocate, nextFree}
 
 -- ---- which addresses
@@ -35,11 +35,11 @@ pub record Eligible (s : Contents) (q : Query) (a : ℕ) : Type 0 where
   pub by-end : (q .end .0 ≡ 0) ⊎ (a + q .size .0 ≤ q .end .0)
   pub one-tag : OneTag (freeIn s) (asks q) (q .size .0) a
 
--- free for next free: at or above p, of the node asked for
-pub record FreeFrom (s : Contents) (p node a : ℕ) : Type 0 where
+-- free for next free: at or above p, of a tag that is asked for
+pub record FreeFrom (s : Contents) (p node wish a : ℕ) : Type 0 where
   pub from : p ≤ a
   pub tag : Tag
-  pub asked : onNode node tag ≡ true
+  pub asked : wanted node wish tag ≡ true
   pub present : freeIn s a ≡ Present tag
 
 -- ---- the sentence
@@ -96,5 +96,5 @@ ReserveSentence = (L : Layout) (q : Query) (b slip : List ℕ) → LooksThenRese
 
 abbrev pub NextFreeSentence : Type 0
 NextFreeSentence =
-    (L : Layout) (p node : ℕ) (b slip : List ℕ)
-    → Searched (Passed (nextNumber L node b) slip) (FreeFrom (contents L b) p node) (λ y x. y < x) (λ n. n ≡ 0) (nextFree L p node b slip)
+    (L : Layout) (p node wish : ℕ) (b slip : List ℕ)
+    → Searched (Passed (nextNumber L node wish b) slip) (FreeFrom (contents L b) p node wish) (λ y x. y < x) (λ n. n ≡ 0) (nextFree L p node wish b slip)

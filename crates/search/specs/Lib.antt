@@ -3,3 +3,4 @@ pub mod DemandTwo
 pub mod RunEnd
 pub mod Search
 pub mod Steps
+pub mod Wishes

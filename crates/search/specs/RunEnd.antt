@@ -10,7 +10,7 @@ use Rattle.regions.specs.Bytes.{number}
 use Rattle.block.specs.declared.Layout.{Layout}
 use Rattle.block.specs.Block.{Contents, contents}
 use Rattle.runs.specs.declared.Query.{Query}
-use Rattle.runs.specs.Eligible.{onNode, asks}
+use Rattle.runs.specs.Eligible.{wanted, asks}
 use Rattle.search.specs.Answers.{find, allocate, nextFree}
 use Rattle.search.specs.DemandTwo.{freeIn}
 
@@ -37,4 +37,5 @@ AllocateRunSentence =
 
 abbrev pub NextFreeRunSentence : Type 0
 NextFreeRunSentence =
-    (L : Layout) (p node : ℕ) (b slip : List ℕ) → nextFree L p node b slip .number ≡ 0 → NamesRun (contents L b) (onNode node) 1 (nextFree L p node b slip .slip)
+    (L : Layout) (p node wish : ℕ) (b slip : List ℕ) → nextFree L p node wish b slip .number ≡ 0
+    → NamesRun (contents L b) (wanted node wish) 1 (nextFree L p node wish b slip .slip)

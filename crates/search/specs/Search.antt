@@ -11,7 +11,7 @@ use Rattle.regions.specs.Runs.{inOne, runAt}
 use Rattle.block.specs.Block.{Contents}
 use Rattle.runs.specs.declared.Query.{Query}
 use Rattle.runs.specs.declared.fit.Place.{Place}
-use Rattle.runs.specs.Eligible.{lowest, highest, onNode, eligible}
+use Rattle.runs.specs.Eligible.{lowest, highest, wanted, eligible}
 use Rattle.runs.specs.Places.{hitOf, placeOf}
 
 -- ---- find
@@ -35,6 +35,7 @@ window limit q =
       start = record { 0 = windowStart (q .start .0) };
       end = record { 0 = windowEnd limit (q .start .0) (q .end .0) };
       node = q .node;
+      wish = q .wish;
     }
 
 abbrev pub runsOf : Contents → List Region
@@ -51,12 +52,12 @@ foundPlace s q = placeOf (hitOf (runAt (runsOf s)) (found s q))
 
 -- ---- next free
 
--- a at or above p, in a free run of the node asked for
-abbrev pub freeFrom : ℕ → ℕ → List Region → ℕ → Bool
-freeFrom p node runs a = leb p a && inOne (onNode node) 1 a runs
+-- a at or above p, in a free run of the node and the wish asked for
+abbrev pub freeFrom : ℕ → ℕ → ℕ → List Region → ℕ → Bool
+freeFrom p node wish runs a = leb p a && inOne (wanted node wish) 1 a runs
 
-unfoldable pub lowestFree : Contents → ℕ → ℕ → Option ℕ
-lowestFree s p node = lowest (freeFrom p node (runsOf s)) top
+unfoldable pub lowestFree : Contents → ℕ → ℕ → ℕ → Option ℕ
+lowestFree s p node wish = lowest (freeFrom p node wish (runsOf s)) top
 
-unfoldable pub nextPlace : Contents → ℕ → ℕ → Place
-nextPlace s p node = placeOf (hitOf (runAt (runsOf s)) (lowestFree s p node))
+unfoldable pub nextPlace : Contents → ℕ → ℕ → ℕ → Place
+nextPlace s p node wish = placeOf (hitOf (runAt (runsOf s)) (lowestFree s p node wish))

@@ -33,8 +33,8 @@ abbrev pub firstOf : Way → Contents → Query → Place
 firstOf v s q = placeOf (firstIn v (s .memory) (s .taken) q)
 
 -- what next free asks: one address from p on
-abbrev pub nextQuery : Address → ℕ → Query
-nextQuery p node = record { size = record { 0 = 1 }; align = record { 0 = 1 }; start = p; end = record { 0 = 18446744073709551615 }; node = node }
+abbrev pub nextQuery : Address → ℕ → ℕ → Query
+nextQuery p node wish = record { size = record { 0 = 1 }; align = record { 0 = 1 }; start = p; end = record { 0 = 18446744073709551615 }; node = node; wish = wish }
 
 -- the slip and the checks, whose number is n, and no more: a slip of 16 bytes is all zero
 abbrev pub begun : ℕ → List ℕ → List ℕ → Answer

@@ -12,20 +12,23 @@ use runs::fit::Place;
 ghost use mathlib.Core.Path.{_≡_};
 ghost use lib.ListN.{length, replicate};
 ghost use Rattle.block.specs.Block.{current};
-ghost use Rattle.search.specs.Answers.{answer, slipOf, nodeKnown, checkNumber, find as findSpec, nextFree};
+ghost use Rattle.search.specs.Answers.{answer, slipOf, askable, checkNumber, find as findSpec, nextFree};
 ghost use Rattle.search.specs.Steps.{begun, Told};
 
-// Whether the node may be asked for: 0 to 63, or any.
-fn node_known(node: u32) -> bool
-    ensures { λ r. ⌜ r ≡ nodeKnown node ⌝ }
+// Whether the node and the wish may be asked for: a node of 0 to 63, or any, and a wish of 0 to 3.
+fn may_ask(node: u32, wish: u32) -> bool
+    ensures { λ r. ⌜ r ≡ askable node wish ⌝ }
 {
+    if 3 < wish {
+        return false;
+    }
     if node <= 63 {
         return true;
     }
     node == 0xFFFF_FFFF
 }
 
-// The number of the checks, in document 01's order: the block, the node, the alignment, the size; 0, if they pass.
+// The number of the checks, in document 01's order: the block, the node and the wish, the alignment, the size; 0, if they pass.
 fn check(block: &[u8], q: Query) -> u32
     ensures { λ r. ⌜ r ≡ checkNumber current q (now (block .entry)) ⌝ }
 {
@@ -34,7 +37,7 @@ fn check(block: &[u8], q: Query) -> u32
     if !block_good(block, layout) {
         return 1;
     }
-    if !node_known(q.node) {
+    if !may_ask(q.node, q.wish) {
         return 2;
     }
     if !align.power_of_two() {
@@ -98,13 +101,13 @@ pub fn find(block: &[u8], q: Query, slip: &mut [u8]) -> u32
     tell(find_in(block, q), slip)
 }
 
-// Writes the lowest free address at or above `p` of the node asked for, and the end of its run.
-pub fn next_free(block: &[u8], p: Address, node: u32, slip: &mut [u8]) -> u32
-    ensures { λ r. ⌜ answer r (now (block .entry)) (now (slip .exit)) ≡ nextFree current (p .0) node (now (block .entry)) (now (slip .entry)) ⌝ }
+// Writes the lowest free address at or above `p` of the node and the wish asked for, and the end of its run.
+pub fn next_free(block: &[u8], p: Address, node: u32, wish: u32, slip: &mut [u8]) -> u32
+    ensures { λ r. ⌜ answer r (now (block .entry)) (now (slip .exit)) ≡ nextFree current (p .0) node wish (now (block .entry)) (now (slip .entry)) ⌝ }
 {
-    let number = begin(block, next_query(p, node), slip);
+    let number = begin(block, next_query(p, node, wish), slip);
     if number != 0 {
         return number;
     }
-    tell(next_in(block, p, node), slip)
+    tell(next_in(block, p, node, wish), slip)
 }

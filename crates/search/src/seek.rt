@@ -42,6 +42,7 @@ fn window(limit: Address, q: Query) -> Query
         start,
         end,
         node: q.node,
+        wish: q.wish,
     }
 }
 
@@ -101,8 +102,8 @@ pub fn find_in(block: &[u8], q: Query) -> Place
 }
 
 // What next free asks: one address from `p` on.
-pub fn next_query(p: Address, node: u32) -> Query
-    ensures { λ r. ⌜ r ≡ nextQuery p node ⌝ }
+pub fn next_query(p: Address, node: u32, wish: u32) -> Query
+    ensures { λ r. ⌜ r ≡ nextQuery p node wish ⌝ }
 {
     Query {
         size: Size(1),
@@ -110,13 +111,14 @@ pub fn next_query(p: Address, node: u32) -> Query
         start: p,
         end: Address(0xFFFF_FFFF_FFFF_FFFF),
         node,
+        wish,
     }
 }
 
-// The lowest address at or above `p` in a free run of the node asked for, with that run: the rising walk for one address.
-pub fn next_in(block: &[u8], p: Address, node: u32) -> Place
+// The lowest address at or above `p` in a free run of the node and the wish asked for, with that run: the rising walk for one address.
+pub fn next_in(block: &[u8], p: Address, node: u32, wish: u32) -> Place
     requires { ⌜ good current (now block) ≡ true ⌝ }
-    ensures { λ r. ⌜ r ≡ nextPlace (contents current (now (block .entry))) (p .0) node ⌝ }
+    ensures { λ r. ⌜ r ≡ nextPlace (contents current (now (block .entry))) (p .0) node wish ⌝ }
 {
-    first_in(block, next_query(p, node), Way::Up)
+    first_in(block, next_query(p, node, wish), Way::Up)
 }

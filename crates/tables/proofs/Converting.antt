@@ -1,44 +1,35 @@
--- An edition 1 block, converted, is a good block that says the same. Assumes nothing.
-use Prim.Native.Nat.{ℕ, _+_, _*_, _-_, _≤_}
+-- Which edition 1 blocks are good by document 01; such a block, converted, is a good block that says the same. Assumes nothing.
+use Prim.Native.Nat.{ℕ, _+_, _*_, _-_, _≤_, _<_}
 use mathlib.Core.Path.{_≡_, refl, sym, ap, _∙_}
-use mathlib.Core.Bool.{Bool, true, false, not, _&&_, _||_, and-false}
-use mathlib.Core.List.{List, [], _∷_, _++_, append-assoc}
+use mathlib.Core.Bool.{Bool, true, false, not, _&&_, and-true, and-false}
+use mathlib.Core.List.{List, _++_, append-assoc}
 use native.Mathlib.Omega.{arith}
-use lib.Dec.{leb, eqb}
+use native.Mathlib.Nat.{sub-zero}
+use lib.Dec.{eqb}
 use lib.ListN.{length, take, drop, replicate, length-append, length-drop, take-append-drop, replicate-append-replicate}
 use lib.Seq.{sets, take-all, take-at, drop-append-le}
 use borrow.Author.Tests.{eq-eqb, eqb-true, ne-eqb, le-leb, not-true, not-false}
 use Rattle.address.proofs.Tests.{no, both, and}
 use Rattle.regions.specs.declared.Kind.the-variants.{Memory, Taken}
 use Rattle.regions.specs.declared.Region.{Region}
-use Rattle.regions.specs.Lists.{legal, legalTag}
-use Rattle.regions.specs.Bytes.{number, tableBytes}
+use Rattle.regions.specs.Bytes.{number, readRegion, readRegions, tableBytes}
 use Rattle.regions.proofs.Numbers.{Bytes, number-bytes}
-use Rattle.regions.proofs.Good.{good-legal}
+use Rattle.regions.proofs.Records.{read-regions-rest, read-regions-end}
 use Rattle.block.specs.declared.Layout.{Layout}
 use Rattle.block.specs.declared.Header.{Header}
-use Rattle.block.specs.Block.{editionOne, current, capacity, blockLength, freshContents, headerBytes, headerOf, blockBytes, readHeader, contents, goodTable, goodContents, good}
+use Rattle.block.specs.Block.{editionOne, current, capacity, offset, blockLength, freshContents, headerBytes, headerOf, blockBytes, readHeader, contents, goodTable, goodContents, good}
 use Rattle.block.proofs.Layouts.{small-one, small-current}
 use Rattle.block.proofs.Headers.{sets-header}
-use Rattle.block.proofs.Blocks.{direction-ok, tables-ok, room, lists-ok, good-contents, good-length}
+use Rattle.block.proofs.Blocks.{direction-ok, tables-ok, room, lists-ok, good-contents, good-length, counted-room}
 use Rattle.block.proofs.Reading.{Spellable, contents-spelled, good-spelled-block, good-spellable, good-header, good-tables}
 use Rattle.block.proofs.Fields.{good-spare}
 use Rattle.block.proofs.Kept.{good-bytes}
 use Rattle.tables.specs.Commands.{outcome, doneWith}
-use Rattle.tables.specs.Convert.{flagsOne, goodOne, convert, Converts, ConvertSentence}
+use Rattle.tables.specs.Convert.{oldFlags, flagsOne, goodOne, convert, Converts, ConvertSentence}
 use Rattle.tables.proofs.Good.{was-good}
 use Rattle.tables.proofs.Printed.{fresh-spellable}
 
 -- ---- good by document 01
-
--- the flags that are legal now are those of document 01
-legal-flags : (xs : List Region) → legal Memory xs ≡ true → flagsOne xs ≡ true
-unfolding legal legalTag flagsOne
-legal-flags [] e = refl
-legal-flags (r ∷ rs) e =
-    let p = both (legalTag Memory (r .tag)) (legal Memory rs) e in
-    let q = both (eqb (r .tag .flags) 0 || eqb (r .tag .flags) 4) (leb (r .tag .node) 63) (p .0) in
-    and (q .0) (legal-flags rs (p .1))
 
 -- the u64 at 72 of a good block is zero
 spare-zero : (old : List ℕ) → good editionOne old ≡ true → number 8 (drop 72 old) ≡ 0
@@ -46,15 +37,72 @@ spare-zero old g =
     let rest : List ℕ = drop 8 (drop 72 old) in
     ap (number 8) (sym (take-append-drop 8 (drop 72 old)) ∙ ap (λ (w : List ℕ). w ++ rest) (good-spare editionOne old g)) ∙ number-bytes 8 0 rest (omega arith)
 
-good-one : (old : List ℕ) → goodOne old ≡ good editionOne old
+-- of good edition 1 blocks those with document 01's flags
+good-one : (old : List ℕ) → goodOne old ≡ good editionOne old && flagsOne (contents editionOne old .memory)
 unfolding goodOne
 good-one old = go (good editionOne old) refl
   where
-    go : (t : Bool) → good editionOne old ≡ t → t && (flagsOne (contents editionOne old .memory) && eqb (number 8 (drop 72 old)) 0) ≡ t
-    go true g =
-        and (legal-flags _ (good-legal Memory _ (lists-ok editionOne (contents editionOne old) (good-contents editionOne old g) Memory)))
-        (eq-eqb (number 8 (drop 72 old)) 0 (spare-zero old g))
+    go : (t : Bool) → good editionOne old ≡ t
+        → t && (flagsOne (contents editionOne old .memory) && eqb (number 8 (drop 72 old)) 0) ≡ t && flagsOne (contents editionOne old .memory)
+    go true g = rw (eq-eqb (number 8 (drop 72 old)) 0 (spare-zero old g)) (and-true (flagsOne (contents editionOne old .memory)))
     go false g = refl
+
+good-one-is : (old : List ℕ) → goodOne old ≡ true → good editionOne old ≡ true
+good-one-is old e = both (good editionOne old) (flagsOne (contents editionOne old .memory)) (sym (good-one old) ∙ e) .0
+
+-- ---- its check, in the code's form
+
+module _ (flags : ℕ) where
+  pub flags-none : flags ≡ 0 → true ≡ oldFlags flags
+  flags-none e = rw e
+
+  pub flags-no-map : (flags ≡ 0 → ⊥) → eqb flags 4 ≡ oldFlags flags
+  flags-no-map n = rw (ne-eqb flags 0 n)
+
+module _ (l : List ℕ) (n : ℕ) where
+  pub flags-start : flagsOne (readRegions (n - 0) (drop (24 * 0) l)) ≡ flagsOne (readRegions n l)
+  flags-start = rw sub-zero
+
+  module _ (i : ℕ) (inv : flagsOne (readRegions (n - i) (drop (24 * i) l)) ≡ flagsOne (readRegions n l)) where
+    pub flags-end : n ≤ i → true ≡ flagsOne (readRegions n l)
+    unfolding flagsOne
+    flags-end h = rw (read-regions-end i n (drop (24 * i) l) h) at inv
+
+    module _ (r : Region) (h : i < n) (e : r ≡ readRegion (drop (24 * i) l)) (b : Bool) (q : b ≡ oldFlags (r .tag .flags)) where
+      step : b && flagsOne (readRegions (n - (i + 1)) (drop (24 * (i + 1)) l)) ≡ flagsOne (readRegions n l)
+      unfolding flagsOne
+      step = rw (q, e) (ap flagsOne (sym (read-regions-rest i n l h)) ∙ inv)
+
+      pub flags-other : not b ≡ true → false ≡ flagsOne (readRegions n l)
+      flags-other t = rw (not-true b t) at step
+
+      pub flags-next : not b ≡ false → flagsOne (readRegions (n - (i + 1)) (drop (24 * (i + 1)) l)) ≡ flagsOne (readRegions n l)
+      flags-next t = rw (not-false b t) at step
+
+module _ (old : List ℕ) (l : Layout) (is : l ≡ editionOne) (g : Bool) (q : g ≡ good l old) where
+  pub not-edition-one : not g ≡ true → false ≡ goodOne old
+  not-edition-one t =
+      let k : good editionOne old ≡ false = rw (← is) (sym q ∙ not-true g t) in
+      rw (good-one old, k)
+
+  module _ (t : not g ≡ false) where
+    edition-one : good editionOne old ≡ true
+    edition-one = rw (← is) (sym q ∙ not-false g t)
+
+    pub one-header : 80 ≤ length old
+    one-header = omega (arith, good-length editionOne old edition-one)
+
+    pub one-memory : 3152 ≤ length old
+    one-memory = omega (arith, good-length editionOne old edition-one)
+
+    module _ (h : Header) (e : h ≡ readHeader old) where
+      pub one-room : 24 * h .memory .count ≤ length (take (3152 - 80) (drop 80 old))
+      unfolding capacity offset
+      one-room = rw e (counted-room editionOne old edition-one Memory)
+
+      pub one-judged : (f : Bool) → f ≡ flagsOne (readRegions (h .memory .count) (take (3152 - 80) (drop 80 old))) → f ≡ goodOne old
+      unfolding contents capacity offset
+      one-judged f d = rw (good-one old, edition-one) (rw e at d)
 
 -- ---- the same in more room
 
@@ -78,7 +126,7 @@ module _ (old : List ℕ) (g : good editionOne old ≡ true) where
   spellable-now = record { good = good-now; limit = good-spellable editionOne small-one old (good-bytes editionOne old g) g .limit }
 
   -- the old records, zeros behind them, and the new header
-  pub converted : Bytes old → (b : List ℕ) → length b ≡ blockLength current → (x : List ℕ) → x ≡ take (blockLength editionOne) old ++ drop (blockLength editionOne) b
+  converted : Bytes old → (b : List ℕ) → length b ≡ blockLength current → (x : List ℕ) → x ≡ take (blockLength editionOne) old ++ drop (blockLength editionOne) b
       → (y : List ℕ) → y ≡ take (blockLength editionOne) x ++ replicate (length x - blockLength editionOne) 0 → (h : Header) → h ≡ readHeader old
       → (l : Layout) → l ≡ current → (z : List ℕ) → z ≡ sets y 0 (headerBytes l h) → z ≡ blockBytes current (contents editionOne old)
   unfolding blockBytes capacity
@@ -101,16 +149,17 @@ module _ (old : List ℕ) (g : good editionOne old ≡ true) where
 
 -- ---- the answers, in the code's form
 
-module _ (old b : List ℕ) (l : Layout) (is : l ≡ editionOne) (g : Bool) (q : g ≡ good l old) where
-  pub not-edition-one : not g ≡ true → outcome 1 b ≡ convert old b
+module _ (old b : List ℕ) (g : Bool) (q : g ≡ goodOne old) where
+  pub not-good-one : not g ≡ true → outcome 1 b ≡ convert old b
   unfolding convert
-  not-edition-one t =
-      let k : good editionOne old ≡ false = rw (← is) (sym q ∙ not-true g t) in
-      rw (good-one old, k)
+  not-good-one t = rw (← q, not-true g t)
 
   module _ (t : not g ≡ false) where
-    pub is-edition-one : good editionOne old ≡ true
-    is-edition-one = rw (← is) (sym q ∙ not-false g t)
+    was-one : goodOne old ≡ true
+    was-one = sym q ∙ not-false g t
+
+    is-edition-one : good editionOne old ≡ true
+    is-edition-one = good-one-is old was-one
 
     pub old-room : blockLength editionOne ≤ length old
     old-room = omega (arith, good-length editionOne old is-edition-one)
@@ -122,9 +171,12 @@ module _ (old b : List ℕ) (l : Layout) (is : l ≡ editionOne) (g : Bool) (q :
     unfolding convert
     convert-length n = rw (ne-eqb (length b) (blockLength current) n, and-false)
 
-    pub convert-done : length b ≡ blockLength current → (z : List ℕ) → z ≡ blockBytes current (contents editionOne old) → outcome 0 z ≡ convert old b
+    pub convert-done : Bytes old → length b ≡ blockLength current → (x : List ℕ) → x ≡ take (blockLength editionOne) old ++ drop (blockLength editionOne) b
+        → (y : List ℕ) → y ≡ take (blockLength editionOne) x ++ replicate (length x - blockLength editionOne) 0 → (h : Header) → h ≡ readHeader old
+        → (l : Layout) → l ≡ current → (z : List ℕ) → z ≡ sets y 0 (headerBytes l h) → outcome 0 z ≡ convert old b
     unfolding convert
-    convert-done n z e = rw (good-one old, is-edition-one, eq-eqb (length b) (blockLength current) n, e)
+    convert-done bs n x ex y ey h eh l el z ez =
+        rw (was-one, eq-eqb (length b) (blockLength current) n) (ap (outcome 0) (converted old is-edition-one bs b n x ex y ey h eh l el z ez))
 
 -- ---- the request's words
 
@@ -134,8 +186,8 @@ converts old b =
     record {
       refused = λ d. rw (no (goodOne old && eqb (length b) (blockLength current)) (λ e. let p = both (goodOne old) _ e in d (p .0) (eqb-true (length b) _ (p .1))));
       done = given;
-      isGood = λ e. let p = passed e in rw (p .0, p .1) (good-spelled-block current small-current (contents editionOne old) (spellable-now old (rw (good-one old) at (p .0))));
-      says = λ e. let p = passed e in rw (p .0, p .1) (contents-spelled current small-current (contents editionOne old) (spellable-now old (rw (good-one old) at (p .0))));
+      isGood = λ e. let p = passed e in rw (p .0, p .1) (good-spelled-block current small-current (contents editionOne old) (spellable-now old (good-one-is old (p .0))));
+      says = λ e. let p = passed e in rw (p .0, p .1) (contents-spelled current small-current (contents editionOne old) (spellable-now old (good-one-is old (p .0))));
     }
   where
     given : goodOne old ≡ true → length b ≡ blockLength current → convert old b .number ≡ 0
@@ -146,12 +198,17 @@ converts old b =
         let t = goodOne old && eqb (length b) (blockLength current) in
         both (goodOne old) (eqb (length b) (blockLength current)) (was-good t b (doneWith (blockBytes current (contents editionOne old))) e)
 
+fresh-one : goodOne (blockBytes editionOne freshContents) ≡ true
+unfolding flagsOne
+fresh-one =
+    let s = fresh-spellable editionOne in
+    good-one (blockBytes editionOne freshContents) ∙ rw (good-spelled-block editionOne small-one freshContents s, contents-spelled editionOne small-one freshContents s)
+
 pub convert-sentence : ConvertSentence
 unfolding convert
 convert-sentence =
     record {
       converts = converts;
       fresh =
-          λ b n. let g = good-spelled-block editionOne small-one freshContents (fresh-spellable editionOne) in
-          rw (good-one (blockBytes editionOne freshContents), g, eq-eqb (length b) (blockLength current) n, contents-spelled editionOne small-one freshContents (fresh-spellable editionOne));
+          λ b n. rw (fresh-one, eq-eqb (length b) (blockLength current) n, contents-spelled editionOne small-one freshContents (fresh-spellable editionOne));
     }

@@ -1,3 +1,4 @@
+pub mod BadTag
 pub mod Commanding
 pub mod Converting
 pub mod DemandTwo

@@ -12,7 +12,7 @@ use Rattle.regions.specs.declared.Region.{Region}
 use Rattle.regions.specs.declared.Change.{Change}
 use Rattle.regions.specs.declared.Change.the-variants as Change
 use Rattle.regions.specs.Lists.{legalTag}
-use Rattle.regions.specs.Changes.{changed}
+use Rattle.regions.specs.Changes.{oneFlag, changed}
 use Rattle.regions.specs.Trim.{trimmedList}
 use Rattle.block.specs.declared.Layout.{Layout}
 use Rattle.tables.specs.declared.commands.Verb.{Verb}
@@ -71,26 +71,26 @@ command v base size = record { verb = v; base = base; size = size }
 abbrev pub table : Verb → Kind
 table (Add t) = Memory
 table Remove = Memory
-table Mark = Memory
-table Unmark = Memory
+table (Mark w) = Memory
+table (Unmark w) = Memory
 table Reserve = Taken
 table Free = Taken
 
--- what it makes of each address of its range: no-map is flag 4, and in the taken table every tag is 0, 0
+-- what it makes of each address of its range; in the taken table every tag is 0, 0
 abbrev pub changeOf : Verb → Change
 changeOf (Add t) = Change.Fill t
 changeOf Remove = Change.Clear
-changeOf Mark = Change.Mark 4
-changeOf Unmark = Change.Unmark 4
+changeOf (Mark w) = Change.Mark w
+changeOf (Unmark w) = Change.Unmark w
 changeOf Reserve = Change.Fill (tag 0 0)
 changeOf Free = Change.Clear
 
--- add's tag is legal; the others name none
+-- add's tag is legal, and mark and unmark name exactly one of the three flags; the others name nothing
 abbrev pub legalVerb : Verb → Bool
 legalVerb (Add t) = legalTag Memory t
 legalVerb Remove = true
-legalVerb Mark = true
-legalVerb Unmark = true
+legalVerb (Mark w) = oneFlag w
+legalVerb (Unmark w) = oneFlag w
 legalVerb Reserve = true
 legalVerb Free = true
 

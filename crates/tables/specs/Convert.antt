@@ -11,9 +11,12 @@ use Rattle.block.specs.Block.{editionOne, current, blockLength, freshContents, 
 use Rattle.tables.specs.Commands.{Outcome, outcome, doneWith, unless}
 
 -- document 01's flags of memory: 0 or 4
+abbrev pub oldFlags : ℕ → Bool
+oldFlags flags = eqb flags 0 || eqb flags 4
+
 unfoldable pub flagsOne : List Region → Bool
 flagsOne [] = true
-flagsOne (r ∷ rs) = (eqb (r .tag .flags) 0 || eqb (r .tag .flags) 4) && flagsOne rs
+flagsOne (r ∷ rs) = oldFlags (r .tag .flags) && flagsOne rs
 
 -- a good edition 1 block by document 01, whatever later requests let a good block say: flags of 0 or 4, and the u64 at 72 zero
 unfoldable pub goodOne : List ℕ → Bool

@@ -1,3 +1,4 @@
+pub mod BadTag
 pub mod Commands
 pub mod Convert
 pub mod DemandTwo

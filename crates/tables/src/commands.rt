@@ -15,6 +15,7 @@ use records::table::put_zeros;
 use regions::Change;
 use regions::Kind;
 use regions::Tag;
+use regions::one_flag;
 ghost use mathlib.Core.Path.{_≡_};
 ghost use mathlib.Core.Bool.{true};
 ghost use lib.ListN.{length};
@@ -69,12 +70,12 @@ pub fn set(block: &mut [u8], limit: Address, direction: u32) -> u32
     0
 }
 
-// The commands on a range; add has its tag.
+// The commands on a range; add has its tag, mark and unmark the flag that they name.
 pub enum Verb {
     Add(Tag),
     Remove,
-    Mark,
-    Unmark,
+    Mark(u32),
+    Unmark(u32),
     Reserve,
     Free,
 }
@@ -87,8 +88,8 @@ impl Verb {
         match self {
             Verb::Add(_) => Kind::Memory,
             Verb::Remove => Kind::Memory,
-            Verb::Mark => Kind::Memory,
-            Verb::Unmark => Kind::Memory,
+            Verb::Mark(_) => Kind::Memory,
+            Verb::Unmark(_) => Kind::Memory,
             Verb::Reserve => Kind::Taken,
             Verb::Free => Kind::Taken,
         }
@@ -102,29 +103,29 @@ impl Verb {
         match self {
             Verb::Add(tag) => Change::Fill(tag),
             Verb::Remove => Change::Clear,
-            Verb::Mark => Change::Mark(4),
-            Verb::Unmark => Change::Unmark(4),
+            Verb::Mark(w) => Change::Mark(w),
+            Verb::Unmark(w) => Change::Unmark(w),
             Verb::Reserve => Change::Fill(plain),
             Verb::Free => Change::Clear,
         }
     }
 
-    // Whether its tag is legal; only add has one.
+    // Whether it may be asked for: add has a legal tag, mark and unmark name one flag.
     fn legal(self) -> bool
         ensures { λ r. ⌜ r ≡ legalVerb self ⌝ }
     {
         match self {
             Verb::Add(tag) => tag.legal(Kind::Memory),
             Verb::Remove => true,
-            Verb::Mark => true,
-            Verb::Unmark => true,
+            Verb::Mark(w) => one_flag(w),
+            Verb::Unmark(w) => one_flag(w),
             Verb::Reserve => true,
             Verb::Free => true,
         }
     }
 }
 
-// What a command answers on a good block, with a legal tag: nothing is checked again.
+// What a command answers on a good block, with a legal tag or flag: nothing is checked again.
 pub fn on_good(block: &mut [u8], verb: Verb, base: Address, size: Size) -> u32
     requires { ⌜ (good current (now block) ≡ true) × (legalVerb verb ≡ true) ⌝ }
     ensures { λ r. ⌜ outcome r (now (block .exit)) ≡ commandOutcome current (command verb (base .0) (size .0)) (now (block .entry)) ⌝ }

@@ -29,19 +29,22 @@ functions! {
     has_memblock_add => memblock_add(
         block: *mut u8, len: usize, base: u64, size: u64, flags: u32, node: u32);
     has_memblock_remove => memblock_remove(block: *mut u8, len: usize, base: u64, size: u64);
-    has_memblock_mark => memblock_mark(block: *mut u8, len: usize, base: u64, size: u64);
-    has_memblock_unmark => memblock_unmark(block: *mut u8, len: usize, base: u64, size: u64);
+    has_memblock_mark => memblock_mark(
+        block: *mut u8, len: usize, base: u64, size: u64, flag: u32);
+    has_memblock_unmark => memblock_unmark(
+        block: *mut u8, len: usize, base: u64, size: u64, flag: u32);
     has_memblock_reserve => memblock_reserve(block: *mut u8, len: usize, base: u64, size: u64);
     has_memblock_free => memblock_free(block: *mut u8, len: usize, base: u64, size: u64);
     has_memblock_trim => memblock_trim(block: *mut u8, len: usize, alignment: u64);
     has_memblock_next_free => memblock_next_free(
-        block: *const u8, len: usize, from: u64, node: u32, slip: *mut u8, slip_len: usize);
+        block: *const u8, len: usize, from: u64, node: u32, wish: u32,
+        slip: *mut u8, slip_len: usize);
     has_memblock_find => memblock_find(
         block: *const u8, len: usize, size: u64, alignment: u64, start: u64, end: u64,
-        node: u32, slip: *mut u8, slip_len: usize);
+        node: u32, wish: u32, slip: *mut u8, slip_len: usize);
     has_memblock_allocate => memblock_allocate(
         block: *mut u8, len: usize, size: u64, alignment: u64, start: u64, end: u64,
-        node: u32, slip: *mut u8, slip_len: usize);
+        node: u32, wish: u32, slip: *mut u8, slip_len: usize);
     has_memblock_intake_e820 => memblock_intake_e820(
         block: *mut u8, len: usize, report: *const u8, report_len: usize);
     has_memblock_convert => memblock_convert(

@@ -123,8 +123,22 @@ impl Draft {
     }
 }
 
-fn some_tag(rng: &mut Rng) -> (u32, u32) {
-    let flags = if rng.one_in(3) { NO_MAP } else { 0 };
+/// Flags of memory: often none, sometimes one, or any.
+pub fn some_flags(rng: &mut Rng) -> u32 {
+    match rng.below(8) {
+        0..=2 => 0,
+        3 => rng.pick(&[HOTPLUG, MIRROR, NO_MAP]),
+        _ => rng.below(u64::from(FLAGS) + 1) as u32,
+    }
+}
+
+/// A legal tag of memory in an edition.
+fn some_tag(rng: &mut Rng, layout: &Layout) -> (u32, u32) {
+    let flags = if layout.edition == EDITION_1.edition {
+        rng.pick(&[0, 0, NO_MAP])
+    } else {
+        some_flags(rng)
+    };
     let node = match rng.below(6) {
         0..=2 => 0,
         3 => 1,
@@ -135,15 +149,20 @@ fn some_tag(rng: &mut Rng) -> (u32, u32) {
 }
 
 /// Exactly `count` memory records.
-fn some_memory(rng: &mut Rng, count: usize) -> Vec<Rec> {
+fn some_memory(rng: &mut Rng, layout: &Layout, count: usize) -> Vec<Rec> {
     let one_tag = rng.one_in(4);
     let all_touch = !one_tag && rng.one_in(5);
     let palette: Vec<(u32, u32)> = if one_tag {
-        vec![some_tag(rng)]
+        vec![some_tag(rng, layout)]
     } else {
-        let extra = rng.index(3);
+        let extra = rng.index(6);
         let mut palette = vec![(0, 0), (0, 1)];
-        palette.extend((0..extra).map(|_| some_tag(rng)));
+        palette.extend((0..extra).map(|_| some_tag(rng, layout)));
+        if rng.one_in(3) {
+            // One node: neighbours differ in their flags alone.
+            palette.iter_mut().for_each(|tag| tag.1 = 0);
+            palette[1].0 = some_tag(rng, layout).0;
+        }
         palette
     };
     // Steps of one unit; 8 units at most for each record.
@@ -246,7 +265,7 @@ fn some_taken(rng: &mut Rng, count: usize, memory: &[Rec]) -> Vec<Rec> {
 
 /// A good block with these numbers of records.
 pub fn good(rng: &mut Rng, layout: &'static Layout, memory: usize, taken: usize) -> Draft {
-    let memory = some_memory(rng, memory);
+    let memory = some_memory(rng, layout, memory);
     let taken = some_taken(rng, taken, &memory);
     let limit = match rng.below(8) {
         0 => rng.any_size(),
@@ -299,6 +318,8 @@ pub enum Damage {
     Empty(bool),
     PastTop(bool),
     Flags(bool),
+    /// Flags that are legal today, in a memory record.
+    LegalFlags,
     Node(bool),
     Tail(bool),
     Hole(bool),
@@ -332,6 +353,7 @@ impl Damage {
             ]);
         }
         all.extend([
+            Damage::LegalFlags,
             Damage::Swapped,
             Damage::Shifted,
             Damage::ByteFlip,
@@ -341,9 +363,14 @@ impl Damage {
         all
     }
 
-    /// Whether the block can never be good after it.
-    pub fn certain(self) -> bool {
-        self != Damage::ByteFlip
+    /// Whether a block of this edition can never be good after it.
+    pub fn certain(self, layout: &Layout) -> bool {
+        match self {
+            Damage::ByteFlip => false,
+            // By document 01 flags are 0 or 4 and nothing else.
+            Damage::LegalFlags => layout.edition == EDITION_1.edition,
+            _ => true,
+        }
     }
 
     /// A damaged block made from a good one.
@@ -453,9 +480,10 @@ impl Damage {
             }
             Damage::Empty(taken) => {
                 draft.make_room(taken);
+                let layout = draft.layout;
                 let list = draft.list(taken);
                 let i = rng.index(list.len() + 1);
-                let (flags, node) = if taken { (0, 0) } else { some_tag(rng) };
+                let (flags, node) = if taken { (0, 0) } else { some_tag(rng, layout) };
                 // At the end of the record before, or somewhere between.
                 let base = match (i.checked_sub(1).map(|p| list[p].end()), list.get(i)) {
                     (Some(end), _) if rng.one_in(2) => end,
@@ -499,11 +527,19 @@ impl Damage {
                 at_least(list, 1);
                 let i = rng.index(list.len());
                 list[i].flags = match rng.below(4) {
-                    0 if taken => NO_MAP,
-                    0 | 1 => rng.pick(&[1, 2, 3, 5, 6, 7, 8]),
+                    0 | 1 if taken => 1 + rng.below(u64::from(FLAGS)) as u32,
+                    0 => FLAGS + 1,
+                    1 => FLAGS + 1 + rng.below(u64::from(FLAGS) + 1) as u32,
                     2 => rng.pick(&[NO_MAP << 8, NO_MAP << 24, 1 << 31, u32::MAX]),
-                    _ => NO_MAP | 1 << (3 + rng.below(29)),
+                    _ => rng.below(u64::from(FLAGS) + 1) as u32 | 1 << (3 + rng.below(29)),
                 };
+                draft.bytes()
+            }
+            Damage::LegalFlags => {
+                let list = draft.list(false);
+                at_least(list, 1);
+                let i = rng.index(list.len());
+                list[i].flags = rng.pick(&[1, 2, 3, 5, 6, 7]);
                 draft.bytes()
             }
             Damage::Node(taken) => {

@@ -1,7 +1,7 @@
 //! One call with its numbers, to be made on the archive or on the model.
 
 use crate::archive;
-use model::Wish;
+use model::Query;
 use std::sync::Arc;
 
 #[derive(Clone, Copy, Debug, PartialEq, Eq, Hash, PartialOrd, Ord)]
@@ -52,13 +52,13 @@ impl Command {
         }
     }
 
-    /// The numbers that document 01 and requests E1 and E4 allow.
+    /// The numbers that document 01 and requests E1, E4 and E6 allow.
     pub fn allowed(self) -> &'static [u32] {
         match self {
             Fresh | Convert => &[0, 1],
             Set => &[0, 1, 7],
-            Add => &[0, 1, 2, 6],
-            Remove | Mark | Unmark | Reserve | Free => &[0, 1, 6],
+            Add | Mark | Unmark => &[0, 1, 2, 6],
+            Remove | Reserve | Free => &[0, 1, 6],
             Trim => &[0, 1, 3],
             NextFree => &[0, 8, 1, 2, 5],
             Find => &[0, 8, 1, 2, 3, 4, 5],
@@ -93,11 +93,18 @@ pub enum Call {
         flags: u32,
         node: u32,
     },
-    /// Remove, mark, unmark, reserve or free.
+    /// Remove, reserve or free.
     Range {
         command: Command,
         base: u64,
         size: u64,
+    },
+    /// Mark or unmark.
+    Mark {
+        command: Command,
+        base: u64,
+        size: u64,
+        flag: u32,
     },
     Trim {
         alignment: u64,
@@ -105,9 +112,10 @@ pub enum Call {
     NextFree {
         from: u64,
         node: u32,
+        wish: u32,
     },
-    Find(Wish),
-    Allocate(Wish),
+    Find(Query),
+    Allocate(Query),
     /// With the report's bytes.
     Intake(Arc<[u8]>),
     /// With the old block's bytes.
@@ -120,7 +128,7 @@ impl Call {
             Call::Fresh => Fresh,
             Call::Set { .. } => Set,
             Call::Add { .. } => Add,
-            Call::Range { command, .. } => command,
+            Call::Range { command, .. } | Call::Mark { command, .. } => command,
             Call::Trim { .. } => Trim,
             Call::NextFree { .. } => NextFree,
             Call::Find(_) => Find,
@@ -159,14 +167,20 @@ impl Call {
                 ("node", node.into()),
             ],
             Call::Range { base, size, .. } => vec![("base", base), ("size", size)],
+            Call::Mark {
+                base, size, flag, ..
+            } => vec![("base", base), ("size", size), ("flag", flag.into())],
             Call::Trim { alignment } => vec![("alignment", alignment)],
-            Call::NextFree { from, node } => vec![("from", from), ("node", node.into())],
-            Call::Find(w) | Call::Allocate(w) => vec![
-                ("size", w.size),
-                ("alignment", w.alignment),
-                ("start", w.start),
-                ("end", w.end),
-                ("node", w.node.into()),
+            Call::NextFree { from, node, wish } => {
+                vec![("from", from), ("node", node.into()), ("wish", wish.into())]
+            }
+            Call::Find(q) | Call::Allocate(q) => vec![
+                ("size", q.size),
+                ("alignment", q.alignment),
+                ("start", q.start),
+                ("end", q.end),
+                ("node", q.node.into()),
+                ("wish", q.wish.into()),
             ],
             Call::Intake(ref report) => vec![("report_length", report.len() as u64)],
             Call::Convert(ref old) => vec![("old_length", old.len() as u64)],
@@ -194,16 +208,24 @@ impl Call {
                 size,
             } => match command {
                 Remove => model::remove(block, base, size),
-                Mark => model::mark(block, base, size),
-                Unmark => model::unmark(block, base, size),
                 Reserve => model::reserve(block, base, size),
                 Free => model::free(block, base, size),
                 other => unreachable!("{other:?} is not a range command"),
             },
+            Call::Mark {
+                command,
+                base,
+                size,
+                flag,
+            } => match command {
+                Mark => model::mark(block, base, size, flag),
+                Unmark => model::unmark(block, base, size, flag),
+                other => unreachable!("{other:?} names no flag"),
+            },
             Call::Trim { alignment } => model::trim(block, alignment),
-            Call::NextFree { from, node } => model::next_free(block, from, node, slip),
-            Call::Find(wish) => model::find(block, &wish, slip),
-            Call::Allocate(wish) => model::allocate(block, &wish, slip),
+            Call::NextFree { from, node, wish } => model::next_free(block, from, node, wish, slip),
+            Call::Find(query) => model::find(block, &query, slip),
+            Call::Allocate(query) => model::allocate(block, &query, slip),
             Call::Intake(ref report) => model::intake_e820(block, report),
             Call::Convert(ref old) => model::convert(old, block),
         }
@@ -231,35 +253,45 @@ impl Call {
                     size,
                 } => match command {
                     Remove => archive::memblock_remove(b, len, base, size),
-                    Mark => archive::memblock_mark(b, len, base, size),
-                    Unmark => archive::memblock_unmark(b, len, base, size),
                     Reserve => archive::memblock_reserve(b, len, base, size),
                     Free => archive::memblock_free(b, len, base, size),
                     other => unreachable!("{other:?} is not a range command"),
                 },
+                Call::Mark {
+                    command,
+                    base,
+                    size,
+                    flag,
+                } => match command {
+                    Mark => archive::memblock_mark(b, len, base, size, flag),
+                    Unmark => archive::memblock_unmark(b, len, base, size, flag),
+                    other => unreachable!("{other:?} names no flag"),
+                },
                 Call::Trim { alignment } => archive::memblock_trim(b, len, alignment),
-                Call::NextFree { from, node } => {
-                    archive::memblock_next_free(b, len, from, node, s, slip_len)
+                Call::NextFree { from, node, wish } => {
+                    archive::memblock_next_free(b, len, from, node, wish, s, slip_len)
                 }
-                Call::Find(w) => archive::memblock_find(
+                Call::Find(q) => archive::memblock_find(
                     b,
                     len,
-                    w.size,
-                    w.alignment,
-                    w.start,
-                    w.end,
-                    w.node,
+                    q.size,
+                    q.alignment,
+                    q.start,
+                    q.end,
+                    q.node,
+                    q.wish,
                     s,
                     slip_len,
                 ),
-                Call::Allocate(w) => archive::memblock_allocate(
+                Call::Allocate(q) => archive::memblock_allocate(
                     b,
                     len,
-                    w.size,
-                    w.alignment,
-                    w.start,
-                    w.end,
-                    w.node,
+                    q.size,
+                    q.alignment,
+                    q.start,
+                    q.end,
+                    q.node,
+                    q.wish,
                     s,
                     slip_len,
                 ),

@@ -1,4 +1,4 @@
-//! The twelve cases of document 01 and those of requests E1, E3, E4 and E5, run
+//! The twelve cases of document 01 and those of requests E1 and E3 to E6, run
 //! through the archive.
 
 use crate::blocks::{get_u64, read_recs};
@@ -6,7 +6,7 @@ use crate::call::{Call, Command};
 use crate::desk::Desk;
 use crate::reports::{self, Entry};
 use model::layout::*;
-use model::Wish;
+use model::Query;
 
 const TOP_DOWN: u32 = 0;
 const BOTTOM_UP: u32 = 1;
@@ -44,11 +44,34 @@ impl Case<'_> {
     }
 
     fn add_gives(&mut self, base: u64, size: u64, node: u32, number: u32) {
+        self.add_tag(base, size, (0, node), number);
+    }
+
+    /// With flags and node.
+    fn add_tag(&mut self, base: u64, size: u64, (flags, node): (u32, u32), number: u32) {
         let call = Call::Add {
             base,
             size,
-            flags: 0,
+            flags,
             node,
+        };
+        self.does(call, number);
+    }
+
+    fn mark(&mut self, base: u64, size: u64, flag: u32, number: u32) {
+        self.marks(Command::Mark, base, size, flag, number);
+    }
+
+    fn unmark(&mut self, base: u64, size: u64, flag: u32, number: u32) {
+        self.marks(Command::Unmark, base, size, flag, number);
+    }
+
+    fn marks(&mut self, command: Command, base: u64, size: u64, flag: u32, number: u32) {
+        let call = Call::Mark {
+            command,
+            base,
+            size,
+            flag,
         };
         self.does(call, number);
     }
@@ -94,12 +117,12 @@ impl Case<'_> {
     }
 
     /// Find and allocate, on the same block, in both directions.
-    fn within(&mut self, limit: u64, wish: Wish, bottom_up: Answer, top_down: Answer) {
+    fn within(&mut self, limit: u64, query: Query, bottom_up: Answer, top_down: Answer) {
         for (direction, wanted) in [(BOTTOM_UP, bottom_up), (TOP_DOWN, top_down)] {
             self.limit(limit, direction);
             let before = self.block.clone();
-            self.asks(Call::Find(wish), wanted);
-            self.asks(Call::Allocate(wish), wanted);
+            self.asks(Call::Find(query), wanted);
+            self.asks(Call::Allocate(query), wanted);
             self.block = before;
         }
     }
@@ -119,16 +142,20 @@ impl Case<'_> {
     }
 
     fn find(&mut self, size: u64, alignment: u64, wanted: Answer) {
-        self.asks(Call::Find(wish(size, alignment)), wanted);
+        self.asks(Call::Find(query(size, alignment)), wanted);
     }
 
     fn allocate(&mut self, size: u64, alignment: u64, wanted: Answer) {
-        self.asks(Call::Allocate(wish(size, alignment)), wanted);
+        self.asks(Call::Allocate(query(size, alignment)), wanted);
     }
 
     fn next_free(&mut self, from: u64, wanted: Answer) {
+        self.next_free_of(from, 0, wanted);
+    }
+
+    fn next_free_of(&mut self, from: u64, wish: u32, wanted: Answer) {
         let node = ANY_NODE;
-        self.asks(Call::NextFree { from, node }, wanted);
+        self.asks(Call::NextFree { from, node, wish }, wanted);
     }
 
     /// The records of a table as (base, size, flags, node), and its total.
@@ -151,18 +178,19 @@ impl Case<'_> {
 /// The two numbers of a slip, or the refusal.
 type Answer = Result<(u64, u64), u32>;
 
-fn wish(size: u64, alignment: u64) -> Wish {
-    Wish {
+fn query(size: u64, alignment: u64) -> Query {
+    Query {
         size,
         alignment,
         start: 0,
         end: 0,
         node: ANY_NODE,
+        wish: 0,
     }
 }
 
 pub fn run(desk: &mut Desk) -> u32 {
-    let cases: [fn(&mut Desk); 33] = [
+    let cases: [fn(&mut Desk); 41] = [
         printed,
         one,
         two_and_three,
@@ -196,6 +224,14 @@ pub fn run(desk: &mut Desk) -> u32 {
         run_and_what_is_behind,
         run_before_the_call,
         run_and_next_free,
+        flags_added,
+        flags_of_a_block,
+        flags_marked,
+        flags_marked_wrong,
+        flags_merged,
+        wishes_checked,
+        wishes_granted,
+        old_flags,
     ];
     for (turn, case) in cases.iter().enumerate() {
         desk.turn = turn as u64;
@@ -512,9 +548,9 @@ fn report_in_two_orders(desk: &mut Desk) {
 fn limit_and_named_end(desk: &mut Desk) {
     let limit = 0x18000;
     let mut c = m(desk);
-    let named = |size, end| Wish {
+    let named = |size, end| Query {
         end,
-        ..wish(size, 1)
+        ..query(size, 1)
     };
     c.within(
         limit,
@@ -542,7 +578,7 @@ fn limit_and_lowest_start(desk: &mut Desk) {
     let mut c = Case::new(desk);
     c.add(0, 0x20000, 0);
     for end in [0, 1, 4095, 4096, 4097, u64::MAX] {
-        let named = Wish { end, ..wish(1, 1) };
+        let named = Query { end, ..query(1, 1) };
         for limit in [0, 1, 4095, 4096] {
             c.within(limit, named, Err(5), Err(5));
         }
@@ -551,7 +587,7 @@ fn limit_and_lowest_start(desk: &mut Desk) {
             _ => Err(5),
         };
         c.within(4097, named, wanted, wanted);
-        c.within(4097, Wish { size: 2, ..named }, Err(5), Err(5));
+        c.within(4097, Query { size: 2, ..named }, Err(5), Err(5));
     }
 }
 
@@ -560,14 +596,14 @@ fn limit_and_start(desk: &mut Desk) {
     let limit = 0x18000;
     let mut c = m(desk);
     for end in [0, limit, limit + 1, 0x1C000, u64::MAX] {
-        let from = |start| Wish {
+        let from = |start| Query {
             start,
             end,
-            ..wish(1, 1)
+            ..query(1, 1)
         };
         let last = limit - 1;
         c.within(limit, from(last), to_end(last), to_end(last));
-        let two = Wish {
+        let two = Query {
             size: 2,
             ..from(last)
         };
@@ -582,9 +618,9 @@ fn limit_and_start(desk: &mut Desk) {
 fn limit_and_allocations(desk: &mut Desk) {
     let mut c = m(desk);
     c.limit(0x12000, TOP_DOWN);
-    let page = Call::Allocate(Wish {
+    let page = Call::Allocate(Query {
         end: 0x20000,
-        ..wish(0x1000, 0x1000)
+        ..query(0x1000, 0x1000)
     });
     for wanted in [to_end(0x11000), Ok((0x10000, 0x11000)), Err(5)] {
         c.asks(page.clone(), wanted);
@@ -684,15 +720,11 @@ fn old_blocks_refused(desk: &mut Desk) {
     c.does(Call::Fresh, 1);
     c.turn_gives(1);
     c.add_gives(0, 0, 0, 1);
-    for command in [
-        Command::Remove,
-        Command::Mark,
-        Command::Unmark,
-        Command::Reserve,
-        Command::Free,
-    ] {
+    for command in [Command::Remove, Command::Reserve, Command::Free] {
         c.range(command, 0x1000, 0x1000, 1);
     }
+    c.mark(0x1000, 0x1000, NO_MAP, 1);
+    c.unmark(0x1000, 0x1000, NO_MAP, 1);
     c.does(Call::Trim { alignment: 1 }, 1);
     c.next_free(0, Err(1));
     c.find(1, 1, Err(1));
@@ -743,9 +775,9 @@ fn run_and_window(desk: &mut Desk) {
         (END + 1, END - 0x10),
         (u64::MAX, END - 0x10),
     ] {
-        let named = Wish {
+        let named = Query {
             end,
-            ..wish(0x10, 1)
+            ..query(0x10, 1)
         };
         let answers = (to_end(0x10000), to_end(highest));
         for limit in [end, END, END + 1, u64::MAX] {
@@ -754,7 +786,7 @@ fn run_and_window(desk: &mut Desk) {
             }
         }
         for named_end in [0, u64::MAX] {
-            let above = Wish {
+            let above = Query {
                 end: named_end,
                 ..named
             };
@@ -762,10 +794,10 @@ fn run_and_window(desk: &mut Desk) {
         }
     }
     // A start inside the run, and a window that is exactly the size.
-    let inside = Wish {
+    let inside = Query {
         start: 0x12345,
         end: 0x12346,
-        ..wish(1, 1)
+        ..query(1, 1)
     };
     c.within(u64::MAX, inside, to_end(0x12345), to_end(0x12345));
 }
@@ -777,7 +809,7 @@ fn run_and_what_is_behind(desk: &mut Desk) {
     c.add(0x10000, 0x2000, 0);
     c.add(0x12000, 0x3000, 1);
     c.range(Command::Reserve, 0x11000, 0x800, 0);
-    c.range(Command::Mark, 0x13000, 0x1000, 0);
+    c.mark(0x13000, 0x1000, NO_MAP, 0);
     c.range(Command::Reserve, 0x15000, 0x1000, 0);
     for (from, to) in [
         (0x10000, 0x11000),
@@ -786,16 +818,16 @@ fn run_and_what_is_behind(desk: &mut Desk) {
         (0x14000, 0x15000),
     ] {
         for end in [from + 0x10, to - 1, to, to + 1] {
-            let ask = Wish {
+            let ask = Query {
                 start: from,
                 end,
-                ..wish(0x10, 1)
+                ..query(0x10, 1)
             };
             let highest = end.min(to) - 0x10;
             c.within(u64::MAX, ask, Ok((from, to)), Ok((highest, to)));
             c.within(
                 end,
-                Wish { end: 0, ..ask },
+                Query { end: 0, ..ask },
                 Ok((from, to)),
                 Ok((highest, to)),
             );
@@ -806,8 +838,8 @@ fn run_and_what_is_behind(desk: &mut Desk) {
     let mut c = Case::new(desk);
     c.add(page, 0x1000, 0);
     let all = Ok((page, u64::MAX));
-    c.within(u64::MAX, wish(0xFFF, 1), all, all);
-    c.within(u64::MAX - 1, wish(0xFFE, 1), all, all);
+    c.within(u64::MAX, query(0xFFF, 1), all, all);
+    c.within(u64::MAX - 1, query(0xFFE, 1), all, all);
 }
 
 /// Allocate reports the run as it was, the last of it too.
@@ -826,10 +858,10 @@ fn run_before_the_call(desk: &mut Desk) {
     c.allocate(1, 1, Err(5));
     // From the middle of a run, which it cuts in two.
     let mut c = m(desk);
-    let middle = Wish {
+    let middle = Query {
         start: 0x18000,
         end: 0x19000,
-        ..wish(0x1000, 1)
+        ..query(0x1000, 1)
     };
     c.asks(Call::Allocate(middle), to_end(0x18000));
     c.next_free(0, Ok((0x10000, 0x18000)));
@@ -847,14 +879,244 @@ fn run_and_next_free(desk: &mut Desk) {
             c.turn(direction);
             for (i, (from, to)) in runs.into_iter().enumerate() {
                 let size = part.min(to - from);
-                let ask = Wish {
+                let ask = Query {
                     start: from,
                     end: from + size,
-                    ..wish(size, 1)
+                    ..query(size, 1)
                 };
                 c.asks(Call::Allocate(ask), Ok((from, to)));
                 c.next_free(to, runs.get(i + 1).copied().ok_or(5));
             }
         }
+    }
+}
+
+/// Flags 0 to 7 are legal in add, and nothing above them.
+fn flags_added(desk: &mut Desk) {
+    for flags in (0..=16).chain([256, 1 << 16, 1 << 31, u32::MAX]) {
+        let legal = flags <= 7;
+        let number = if legal { 0 } else { 2 };
+        let mut c = Case::new(desk);
+        c.add_tag(0x1000, 0, (flags, 63), number);
+        c.add_tag(0x1000, 0x1000, (flags, 64), 2);
+        c.table(&MEMORY, &[]);
+        c.add_tag(0x1000, 0x1000, (flags, 63), number);
+        c.count(&MEMORY, u64::from(legal));
+        c.block[0] = 0;
+        c.add_tag(0x1000, 0x1000, (flags, 64), 1);
+    }
+}
+
+/// The same of a good block; in the taken table any flag is bad.
+fn flags_of_a_block(desk: &mut Desk) {
+    for flags in (0..=16).chain([256, 1 << 16, 1 << 31, u32::MAX]) {
+        let mut c = four_tables(desk);
+        let whole = c.block.clone();
+        let at = MEMORY.offset + 16;
+        c.block[at..at + 4].copy_from_slice(&flags.to_le_bytes());
+        c.range(Command::Free, 0, 1, u32::from(flags > 7));
+        c.block = whole;
+        let at = TAKEN.offset + 16;
+        c.block[at..at + 4].copy_from_slice(&flags.to_le_bytes());
+        c.range(Command::Free, 0, 1, u32::from(flags > 0));
+    }
+}
+
+const EACH_FLAG: [u32; 3] = [HOTPLUG, MIRROR, NO_MAP];
+
+/// A mark sets its flag and keeps the others, an unmark clears it; one that finds
+/// nothing to do changes nothing.
+fn flags_marked(desk: &mut Desk) {
+    for flags in 0..=FLAGS {
+        for flag in EACH_FLAG {
+            let mut c = Case::new(desk);
+            c.add_tag(0x1000, 0x3000, (flags, 9), 0);
+            for (command, becomes) in [
+                (Command::Mark, flags | flag),
+                (Command::Unmark, flags & !flag),
+            ] {
+                let start = c.block.clone();
+                c.marks(command, 0x2000, 0x1000, flag, 0);
+                if becomes == flags {
+                    c.expect("block", c.block.clone(), start.clone());
+                } else {
+                    c.table(
+                        &MEMORY,
+                        &[
+                            (0x1000, 0x1000, flags, 9),
+                            (0x2000, 0x1000, becomes, 9),
+                            (0x3000, 0x1000, flags, 9),
+                        ],
+                    );
+                }
+                c.block = start.clone();
+                c.marks(command, 0, u64::MAX, flag, 0);
+                c.table(&MEMORY, &[(0x1000, 0x3000, becomes, 9)]);
+                c.block = start;
+            }
+        }
+    }
+}
+
+/// Another value than one flag gets 2, also at size 0, after 1 and before 6.
+fn flags_marked_wrong(desk: &mut Desk) {
+    let most = MEMORY.capacity as u64;
+    let mut c = Case::new(desk);
+    for i in 0..most {
+        c.add(0x10000 + i * 0x2000, 0x1000, 0);
+    }
+    let full = c.block.clone();
+    for command in [Command::Mark, Command::Unmark] {
+        for flag in [0, 3, 5, 6, 7, 8, 9, 12, 1 << 16, 1 << 31, u32::MAX] {
+            for size in [0, 1, u64::MAX] {
+                c.marks(command, 0x12000, size, flag, 2);
+                c.marks(command, u64::MAX, size, flag, 2);
+            }
+            c.block[0] = 0;
+            c.marks(command, 0x12000, 0, flag, 1);
+            c.block[0] = full[0];
+        }
+        for flag in EACH_FLAG {
+            c.marks(command, 0x12000, 0, flag, 0);
+            c.marks(command, 0x11000, 0x1000, flag, 0);
+        }
+    }
+    c.expect("block", c.block.clone(), full);
+    for flag in EACH_FLAG {
+        c.mark(0x12000, 1, flag, 6);
+        c.mark(0x12000, 0x1000, flag, 0);
+        c.unmark(0x12800, 1, flag, 6);
+        c.unmark(0x12000, 0x1000, flag, 0);
+    }
+}
+
+/// Records that differ in one flag stay apart, and merge once it is cleared.
+fn flags_merged(desk: &mut Desk) {
+    for flag in EACH_FLAG {
+        let mut c = m(desk);
+        c.mark(0x14000, 0x4000, flag, 0);
+        c.table(
+            &MEMORY,
+            &[
+                (0x10000, 0x4000, 0, 0),
+                (0x14000, 0x4000, flag, 0),
+                (0x18000, 0x8000, 0, 0),
+            ],
+        );
+        let apart = c.block.clone();
+        c.unmark(0, u64::MAX, flag, 0);
+        c.table(&MEMORY, &[(0x10000, 0x10000, 0, 0)]);
+        c.block = apart;
+        c.mark(0x10000, 0x10000, flag, 0);
+        c.table(&MEMORY, &[(0x10000, 0x10000, flag, 0)]);
+    }
+}
+
+/// A wish above 3 gets 2, after 8 and 1 and before 3 and 4.
+fn wishes_checked(desk: &mut Desk) {
+    let mut c = m(desk);
+    let whole = c.block.clone();
+    for wish in [4, 5, 7, 8, 256, 1 << 16, 1 << 31, u32::MAX - 1, u32::MAX] {
+        for (size, alignment, node) in [(1, 1, ANY_NODE), (1, 3, 0), (0, 1, 63), (0, 3, 64)] {
+            let wrong = Query {
+                node,
+                wish,
+                ..query(size, alignment)
+            };
+            let next = Call::NextFree {
+                from: 0,
+                node,
+                wish,
+            };
+            for call in [Call::Find(wrong), Call::Allocate(wrong), next] {
+                c.asks(call.clone(), Err(2));
+                c.block[0] = 0;
+                c.asks(call.clone(), Err(1));
+                let number = c.desk.call(&call, &mut c.block, &mut [0x77; 15]);
+                c.expect("number", number, 8);
+                c.block = whole.clone();
+            }
+        }
+    }
+    for wish in 0..=3 {
+        let (size, alignment) = (0, 3);
+        let asked = Query {
+            wish,
+            ..query(size, alignment)
+        };
+        c.asks(Call::Find(Query { node: 64, ..asked }), Err(2));
+        c.asks(Call::Find(asked), Err(3));
+        let asked = Query {
+            alignment: 1,
+            ..asked
+        };
+        c.asks(Call::Find(asked), Err(4));
+    }
+}
+
+/// All flags side by side, under every wish: the flags that it grants are listed here,
+/// as the request reads, and each run ends where its flags do.
+fn wishes_granted(desk: &mut Desk) {
+    const GRANTED: [&[u32]; 4] = [&[0, 2], &[0, 1, 2, 3], &[2], &[2, 3]];
+    const PART: u64 = 0x1000;
+    for order in [[0, 1, 2, 3, 4, 5, 6, 7], [4, 1, 3, 2, 0, 7, 6, 5]] {
+        let mut c = Case::new(desk);
+        let base = |i: usize| 0x10000 + i as u64 * PART;
+        for (i, flags) in order.into_iter().enumerate() {
+            c.add_tag(base(i), PART, (flags, 0), 0);
+        }
+        for (wish, granted) in (0..).zip(GRANTED) {
+            let asked = |size| Query {
+                wish,
+                ..query(size, 1)
+            };
+            let runs: Vec<(u64, u64)> = (0..8)
+                .filter(|&i| granted.contains(&order[i]))
+                .map(|i| (base(i), base(i + 1)))
+                .collect();
+            let (first, last) = (runs[0], runs[runs.len() - 1]);
+            c.within(
+                u64::MAX,
+                asked(0x10),
+                Ok(first),
+                Ok((last.1 - 0x10, last.1)),
+            );
+            c.within(u64::MAX, asked(PART), Ok(first), Ok(last));
+            c.within(u64::MAX, asked(PART + 1), Err(5), Err(5));
+            for i in 0..8 {
+                let window = Query {
+                    start: base(i),
+                    end: base(i + 1),
+                    ..asked(PART)
+                };
+                let wanted = match granted.contains(&order[i]) {
+                    true => Ok((base(i), base(i + 1))),
+                    false => Err(5),
+                };
+                c.within(u64::MAX, window, wanted, wanted);
+                for at in [base(i) - 1, base(i), base(i) + 1] {
+                    let next = runs.iter().find(|run| at < run.1);
+                    let wanted = next.map(|run| (run.0.max(at), run.1)).ok_or(5);
+                    c.next_free_of(at, wish, wanted);
+                }
+            }
+        }
+    }
+}
+
+/// By document 01 an edition 1 block has flags 0 or 4 and nothing else.
+fn old_flags(desk: &mut Desk) {
+    for flags in 0..=9 {
+        let mut c = Case::new(desk);
+        c.add(0x1000, 0x1000, 0);
+        c.add(0x4000, 0x1000, 0);
+        let mut wanted = c.block.clone();
+        wanted[120..124].copy_from_slice(&u32::to_le_bytes(flags));
+        c.block.fill(0x5A);
+        let lent = c.block.clone();
+        let good = flags == 0 || flags == 4;
+        c.convert(&old_of(&wanted), u32::from(!good));
+        let wanted = if good { wanted } else { lent };
+        c.expect("block", c.block.clone(), wanted);
     }
 }

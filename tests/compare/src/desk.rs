@@ -5,6 +5,7 @@ use crate::blocks::{get_u32, get_u64, read_recs};
 use crate::call::{Call, Command};
 use crate::limits::Sides;
 use crate::runs::Runs;
+use crate::wishes::Wishes;
 use model::layout::{Body, EDITION_1, MEMORY, REPORT_ENTRY_LEN, TAKEN};
 use std::sync::atomic::{AtomicU64, Ordering};
 use std::sync::Mutex;
@@ -151,6 +152,7 @@ pub struct Desk {
     pairs: [[u64; NUMBERS]; Command::ALL.len()],
     pub sides: Sides,
     pub runs: Runs,
+    pub wishes: Wishes,
     block_room: Lent,
     slip_room: Lent,
     source_room: Lent,
@@ -167,6 +169,7 @@ impl Desk {
             pairs: [[0; NUMBERS]; Command::ALL.len()],
             sides: Sides::default(),
             runs: Runs::default(),
+            wishes: Wishes::default(),
             block_room: Lent::new(),
             slip_room: Lent::new(),
             source_room: Lent::new(),
@@ -259,8 +262,12 @@ impl Desk {
             std::process::exit(1);
         }
         self.pairs[command as usize][got as usize] += 1;
-        self.sides.note(call, &before, got, slip);
-        self.runs.note(call, &before, got, slip);
+        // Searches that no check refused; in allocate 6 speaks of an address found.
+        if command.takes_slip() && matches!(got, 0 | 5 | 6) {
+            self.sides.note(call, &before, got, slip);
+            self.runs.note(call, &before, got, slip);
+            self.wishes.note(call, &before, got);
+        }
         got
     }
 

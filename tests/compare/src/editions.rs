@@ -139,7 +139,7 @@ fn convert_and_refuse(desk: &mut Desk, rng: &mut Rng, old: &[u8], wanted: &[u8])
 fn damaged(desk: &mut Desk, rng: &mut Rng, kind: Damage, draft: Draft) -> bool {
     let bytes = kind.done_to(rng, draft);
     let lent = lent_bytes(rng);
-    if kind.certain() {
+    if kind.certain(&EDITION_1) {
         convert(desk, &bytes, &lent, None);
         return true;
     }

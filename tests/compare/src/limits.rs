@@ -4,7 +4,7 @@
 use crate::blocks::{get_u64, put_u64};
 use crate::call::{Call, Command};
 use model::layout::*;
-use model::Wish;
+use model::Query;
 
 const STARTS: [&str; 4] = [
     "a limit of 0",
@@ -42,21 +42,17 @@ pub struct Sides {
 impl Sides {
     /// A call on a block as it was `before`, with what it answered.
     pub fn note(&mut self, call: &Call, before: &[u8], number: u32, slip: &[u8]) {
-        let (Call::Find(wish) | Call::Allocate(wish)) = call else {
+        let (Call::Find(query) | Call::Allocate(query)) = call else {
             return;
         };
-        // In allocate 6 speaks of an address that was found.
-        if !matches!(number, 0 | 5 | 6) {
-            return;
-        }
         let limit = get_u64(before, LIMIT_AT);
         let start = match limit {
             0 => 0,
             1..=4095 => 1,
-            _ if u128::from(limit) <= LOWEST_START.max(wish.start.into()) => 2,
+            _ if u128::from(limit) <= LOWEST_START.max(query.start.into()) => 2,
             _ => 3,
         };
-        let end = match wish.end {
+        let end = match query.end {
             0 => 0,
             end if end < limit => 1,
             end if end == limit => 2,
@@ -64,8 +60,8 @@ impl Sides {
         };
         let whose = usize::from(call.command() == Command::Allocate);
         self.met[whose][start][end][usize::from(number == 5)] += 1;
-        self.to_the_limit += u64::from(number == 0 && get_u64(slip, 0) + wish.size == limit);
-        self.decided += u64::from(end == 3 && decides(before, wish));
+        self.to_the_limit += u64::from(number == 0 && get_u64(slip, 0) + query.size == limit);
+        self.decided += u64::from(end == 3 && decides(before, query));
     }
 
     /// How often the sides were met, or which were not.
@@ -108,12 +104,12 @@ impl Sides {
 }
 
 /// Whether the answer would be another if the block had no limit.
-fn decides(block: &[u8], wish: &Wish) -> bool {
+fn decides(block: &[u8], query: &Query) -> bool {
     let mut open = block.to_vec();
     put_u64(&mut open, LIMIT_AT, u64::MAX);
     let answer = |block: &[u8]| {
         let mut slip = [0; SLIP_LEN];
-        (model::find(block, wish, &mut slip), slip)
+        (model::find(block, query, &mut slip), slip)
     };
     answer(block) != answer(&open)
 }

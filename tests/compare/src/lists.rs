@@ -1,6 +1,6 @@
 //! Demand 3: lists of commands in one order and in another.
 
-use crate::blocks::{self, get_u64, read_recs, some_fill, Draft, Rec};
+use crate::blocks::{self, get_u64, read_recs, some_fill, some_flags, Draft, Rec};
 use crate::call::{Call, Command};
 use crate::desk::Desk;
 use crate::numbers::{slip, Near};
@@ -24,28 +24,39 @@ pub struct Tally {
     pub pairs_with_full_tables: u64,
     /// Orders in which other commands were done; nothing is claimed of the pair.
     pub other_done: u64,
+    /// Runs that kept the condition, with marks done of this flag: hotplug, mirror,
+    /// no-map.
+    pub flags: [u64; 3],
+    /// Runs that broke it by two flags on one address and by nothing else.
+    pub two_flags: u64,
 }
+
+const FLAG_WORDS: [u32; 3] = [HOTPLUG, MIRROR, NO_MAP];
 
 /// The addresses a call covers, after the cut at the top.
 fn covers(call: &Call) -> (u128, u128) {
     let (base, size) = match *call {
-        Call::Add { base, size, .. } | Call::Range { base, size, .. } => (base, size),
+        Call::Add { base, size, .. }
+        | Call::Range { base, size, .. }
+        | Call::Mark { base, size, .. } => (base, size),
         _ => unreachable!("not a listed command"),
     };
     let lo = u128::from(base);
     (lo, (lo + u128::from(size)).min(TOP))
 }
 
-/// The command and, for add, its tag.
+/// The command and, for add, its tag, for marks the flag that they name.
 fn kind(call: &Call) -> (Command, u32, u32) {
     match *call {
         Call::Add { flags, node, .. } => (Command::Add, flags, node),
+        Call::Mark { command, flag, .. } => (command, flag, 0),
         _ => (call.command(), 0, 0),
     }
 }
 
-/// The condition of demand 3 on the done commands.
-fn condition(done: &[Call]) -> bool {
+/// Whether all done commands that cover one address in one table are the same to
+/// `kind`.
+fn one_kind<K: PartialEq>(done: &[Call], kind: impl Fn(&Call) -> K) -> bool {
     done.iter().enumerate().all(|(i, a)| {
         done[..i].iter().all(|b| {
             let ((alo, ahi), (blo, bhi)) = (covers(a), covers(b));
@@ -56,17 +67,32 @@ fn condition(done: &[Call]) -> bool {
     })
 }
 
+/// The condition of demand 3 on the done commands.
+fn condition(done: &[Call]) -> bool {
+    one_kind(done, kind)
+}
+
+/// Whether it is broken by the flags named alone.
+fn only_two_flags(done: &[Call]) -> bool {
+    one_kind(done, |call| match *call {
+        Call::Mark { command, .. } => (command, 0, 0),
+        _ => kind(call),
+    })
+}
+
 /// How one address stands at the end of a list, by the section on lists.
 fn stands(at_start: Option<(u32, u32)>, call: &Call) -> Option<(u32, u32)> {
     match *call {
         Call::Add { flags, node, .. } => at_start.or(Some((flags, node))),
         Call::Range { command, .. } => match command {
             Command::Remove | Command::Free => None,
-            Command::Mark => at_start.map(|(flags, node)| (flags | NO_MAP, node)),
-            Command::Unmark => at_start.map(|(flags, node)| (flags & !NO_MAP, node)),
             Command::Reserve => Some((0, 0)),
             _ => unreachable!("not a listed command"),
         },
+        Call::Mark { command, flag, .. } => at_start.map(|(flags, node)| match command {
+            Command::Mark => (flags | flag, node),
+            _ => (flags & !flag, node),
+        }),
         _ => unreachable!("not a listed command"),
     }
 }
@@ -165,7 +191,7 @@ fn run_list(desk: &mut Desk, start: &[u8], list: &[Call]) -> (Vec<u8>, Vec<Call>
     (block, done, refused)
 }
 
-/// Disjoint ranges, each with one command and tag, on one table.
+/// Disjoint ranges, each with one command and tag or flag, on one table.
 fn regions(rng: &mut Rng, near: &Near, taken: bool, list: &mut Vec<Call>) {
     let commands: Vec<Command> = Command::LISTED
         .into_iter()
@@ -192,8 +218,8 @@ fn regions(rng: &mut Rng, near: &Near, taken: bool, list: &mut Vec<Call>) {
         }
         let (lo, hi) = (two[0], two[1]);
         let command = rng.pick(&commands);
-        let flags = rng.pick(&[0, 0, NO_MAP]);
-        let node = rng.pick(&[0, 0, 1, 2, NODES - 1]);
+        let tag = (some_flags(rng), rng.pick(&[0, 0, 1, 2, NODES - 1]));
+        let flag = rng.pick(&FLAG_WORDS);
         for again in 0..rng.pick(&[1, 1, 1, 2, 3]) {
             let (mut from, mut to) = (lo, hi);
             if again > 0 || rng.one_in(4) {
@@ -205,26 +231,47 @@ fn regions(rng: &mut Rng, near: &Near, taken: bool, list: &mut Vec<Call>) {
                 // The same range after the cut.
                 size = size.saturating_add(rng.any_size());
             }
-            list.push(listed(command, from, size, flags, node));
+            list.push(listed(command, from, size, tag, flag));
         }
     }
 }
 
-fn listed(command: Command, base: u64, size: u64, flags: u32, node: u32) -> Call {
-    if command == Command::Add {
-        Call::Add {
+/// A listed command; the tag is for add, the flag for marks.
+fn listed(command: Command, base: u64, size: u64, tag: (u32, u32), flag: u32) -> Call {
+    match command {
+        Command::Add => Call::Add {
             base,
             size,
-            flags,
-            node,
-        }
-    } else {
-        Call::Range {
+            flags: tag.0,
+            node: tag.1,
+        },
+        Command::Mark | Command::Unmark => Call::Mark {
             command,
             base,
             size,
-        }
+            flag,
+        },
+        _ => Call::Range {
+            command,
+            base,
+            size,
+        },
     }
+}
+
+/// The same mark of another flag, if the call is one.
+fn of_another_flag(rng: &mut Rng, call: &Call) -> Option<Call> {
+    let Call::Mark {
+        command,
+        base,
+        size,
+        flag,
+    } = *call
+    else {
+        return None;
+    };
+    let others: Vec<u32> = FLAG_WORDS.into_iter().filter(|&f| f != flag).collect();
+    Some(listed(command, base, size, (0, 0), rng.pick(&others)))
 }
 
 /// A list that mostly keeps the condition, with calls that are always or
@@ -238,17 +285,27 @@ fn some_list(rng: &mut Rng, near: &Near, there: &[Command]) -> Vec<Call> {
         let call = list[rng.index(list.len())].clone();
         list.push(call);
     }
+    // A second flag on the addresses of a mark, outside the condition.
+    if rng.one_in(6) {
+        let second = list.iter().find_map(|call| of_another_flag(rng, call));
+        list.extend(second);
+    }
     for _ in 0..rng.index(3) {
         let command = rng.pick(there);
         let (base, size) = near.range(rng);
-        list.push(match rng.below(8) {
+        let flag = near.flag(rng, 0);
+        let marks = [Command::Mark, Command::Unmark];
+        list.push(match rng.below(10) {
             // Covers nothing.
-            0 | 1 => listed(command, base, 0, 0, 5),
-            2 => listed(command, u64::MAX, size, 0, 5),
+            0 | 1 => listed(command, base, 0, (some_flags(rng), 5), flag),
+            2 => listed(command, u64::MAX, size, (0, 5), flag),
             // Always refused, whatever it lies over.
-            3..=5 if Command::Add.is_there() => listed(Command::Add, base, size, 1, 64),
+            3 | 4 if Command::Add.is_there() => listed(Command::Add, base, size, (8, 64), 0),
+            5 | 6 if marks.iter().all(|mark| there.contains(mark)) => {
+                listed(rng.pick(&marks), base, size, (0, 0), near.flag(rng, 100))
+            }
             // Refused only by a full table.
-            _ => listed(command, base, 1 + rng.below(3), 0, 6),
+            _ => listed(command, base, 1 + rng.below(3), (0, 6), flag),
         });
     }
     rng.shuffle(&mut list);
@@ -285,9 +342,14 @@ pub fn run(desk: &mut Desk, until: u64) -> Tally {
         let (end, done, refused) = run_list(desk, &start, &list);
         if !condition(&done) {
             tally.outside += 1;
+            tally.two_flags += u64::from(only_two_flags(&done));
             continue;
         }
         tally.predicted += 1;
+        for (count, word) in tally.flags.iter_mut().zip(FLAG_WORDS) {
+            let of_it = |call: &Call| matches!(*call, Call::Mark { flag, .. } if flag == word);
+            *count += u64::from(done.iter().any(of_it));
+        }
         if Some(&end) != predicted(&start, &done).as_ref() {
             desk.fail(&format!(
                 "the list does not end as predicted:\n{}",

@@ -14,6 +14,7 @@ mod orders;
 mod reports;
 mod rng;
 mod runs;
+mod wishes;
 
 use blocks::Damage;
 use call::Command;
@@ -131,7 +132,7 @@ fn main() {
             "cases" => {
                 let cases = cases::run(desk);
                 println!(
-                    "cases: all {cases} of document 01 and those of requests E1, E3, E4 and E5, {} calls",
+                    "cases: all {cases} of document 01 and those of requests E1, E3 to E6, {} calls",
                     desk.calls
                 );
             }
@@ -193,12 +194,18 @@ fn numbers_reached(desk: &Desk) {
     );
 }
 
-/// Searches on every side of the limit and of a run's end were made.
+/// Searches on every side of the limit and of a run's end were made, and with every
+/// wish.
 fn sides_met(desk: &Desk) {
-    if !Command::Find.is_there() || !Command::Allocate.is_there() {
+    let searches = [Command::Find, Command::Allocate, Command::NextFree];
+    if !searches.into_iter().all(Command::is_there) {
         return;
     }
-    for (what, told) in [("limit", desk.sides.told()), ("runs", desk.runs.told())] {
+    for (what, told) in [
+        ("limit", desk.sides.told()),
+        ("runs", desk.runs.told()),
+        ("wishes", desk.wishes.told()),
+    ] {
         match told {
             Ok(counts) => println!("{what}: {counts}"),
             Err(message) => stop(&format!("{what}: {message}")),
@@ -227,7 +234,8 @@ fn lists(desk: &mut Desk, calls: u64) {
     println!(
         "lists: {} calls, {} lists, {} runs as predicted, {} pairs of orders equal \
          ({} with refusals, {} with full tables), {} orders with other commands done, \
-         {} runs outside the condition",
+         {} runs outside the condition ({} by two flags on one address alone); lists with hotplug \
+         marks {}, mirror {}, no-map {}",
         desk.calls - before,
         tally.lists,
         tally.predicted,
@@ -236,6 +244,10 @@ fn lists(desk: &mut Desk, calls: u64) {
         tally.pairs_with_full_tables,
         tally.other_done,
         tally.outside,
+        tally.two_flags,
+        tally.flags[0],
+        tally.flags[1],
+        tally.flags[2],
     );
     let floor = calls / CALLS_PER_PAIR;
     let mut floors = vec![("pairs of orders", tally.pairs, floor)];
@@ -246,11 +258,22 @@ fn lists(desk: &mut Desk, calls: u64) {
             tally.pairs_with_full_tables,
             floor / 20,
         ));
+        floors.push(("lists with two flags", tally.two_flags, floor / 20));
+        for (what, count) in [
+            "lists with hotplug marks",
+            "lists with mirror marks",
+            "lists with no-map marks",
+        ]
+        .into_iter()
+        .zip(tally.flags)
+        {
+            floors.push((what, count, floor / 10));
+        }
     }
     for (what, count, floor) in floors {
         if count < floor {
             stop(&format!(
-                "only {count} {what} were compared, at least {floor} asked for"
+                "only {count} {what} were met, at least {floor} asked for"
             ));
         }
     }
@@ -357,8 +380,8 @@ fn editions(desk: &mut Desk, there: &[Command], calls: u64) {
 fn damage(desk: &mut Desk, there: &[Command], calls: u64) {
     let before = desk.calls;
     let kinds = Damage::all();
-    let mut refused = vec![0u64; kinds.len()];
-    while desk.calls < before + calls || refused.contains(&0) {
+    let mut met = vec![0u64; kinds.len()];
+    while desk.calls < before + calls || met.contains(&0) {
         let mut rng = next_turn(desk);
         let rng = &mut rng;
         let which = desk.turn as usize % kinds.len();
@@ -367,13 +390,14 @@ fn damage(desk: &mut Desk, there: &[Command], calls: u64) {
         let bytes = kind.done_to(rng, draft);
         let near = Near::to(&bytes);
         let good = model::Board::read(&bytes).is_some();
-        if good && kind.certain() {
+        if good && kind.certain(&CURRENT) {
             desk.fail(&format!(
                 "the model takes a block damaged by {kind:?} for good"
             ));
         }
-        if !good {
-            refused[which] += 1;
+        // Legal flags leave a good block, unless a record then meets its like.
+        if good == (kind == Damage::LegalFlags) {
+            met[which] += 1;
         }
         for &command in there {
             let call = near.call(rng, command, 10);
@@ -386,7 +410,7 @@ fn damage(desk: &mut Desk, there: &[Command], calls: u64) {
         desk.calls - before,
         desk.turn,
         kinds.len(),
-        refused.iter().min().expect("there are kinds"),
+        met.iter().min().expect("there are kinds"),
     );
 }
 
@@ -492,8 +516,8 @@ fn walks(desk: &mut Desk, calls: u64) {
             let mut slip = slip(rng, 2);
             let mut next = block.clone();
             let number = desk.call(&call, &mut next, &mut slip);
-            if number == 0 && command == Command::Allocate {
-                runs::follow(desk, rng, &mut next, &slip);
+            if let (0, call::Call::Allocate(query)) = (number, &call) {
+                runs::follow(desk, rng, query.wish, &mut next, &slip);
             }
             // Fresh, conversions, coarse trims and those of intakes would end most
             // walks: try them on a copy.
@@ -502,7 +526,9 @@ fn walks(desk: &mut Desk, calls: u64) {
                 call::Call::Convert(_) => rng.one_in(8),
                 call::Call::Trim { alignment } => alignment <= 4096 || rng.one_in(8),
                 call::Call::Intake(_) => rng.one_in(3),
-                call::Call::Range { size, .. } => size < 1 << 62 || rng.one_in(4),
+                call::Call::Range { size, .. } | call::Call::Mark { size, .. } => {
+                    size < 1 << 62 || rng.one_in(4)
+                }
                 _ => true,
             };
             if keep && next != block {

@@ -1,12 +1,12 @@
 //! Numbers for calls, most of them near something the block holds.
 
-use crate::blocks::{get_u64, read_recs};
+use crate::blocks::{get_u64, read_recs, some_flags};
 use crate::call::{Call, Command};
 use crate::editions;
 use crate::reports;
 use crate::rng::Rng;
 use model::layout::*;
-use model::{Board, Run, Wish};
+use model::{Board, Query, Run, Wish};
 
 const SPECIAL: [u64; 18] = [
     0,
@@ -155,11 +155,54 @@ impl Near {
         }
     }
 
+    /// A wish, any or one that some memory meets; a wrong one is above 3, often just so.
+    pub fn wish(&self, rng: &mut Rng, faults: u64) -> u32 {
+        if rng.percent(faults) {
+            return match rng.below(4) {
+                0 => WISH_BOTH + 1,
+                1 => u32::MAX - rng.below(4) as u32,
+                2 => rng.pick(&[5, 6, 7, 8, 16, 256, 1 << 16, 1 << 31]),
+                _ => WISH_BOTH + 1 + rng.below(u64::from(u32::MAX - WISH_BOTH)) as u32,
+            };
+        }
+        // Often the one that rules nothing out, so that what else is asked decides.
+        if rng.one_in(3) {
+            return WISH_HOTPLUG;
+        }
+        let wish = rng.below(u64::from(WISH_BOTH) + 1) as u32;
+        if self.runs.is_empty() || rng.one_in(3) {
+            return wish;
+        }
+        // One that grants some free run, by what else it asks for.
+        let tag = self.runs[rng.index(self.runs.len())].tag;
+        let mut wish = Wish::named(wish).expect("a wish");
+        wish.allows_hotplug |= tag.hotplug;
+        wish.demands_mirror &= tag.mirror;
+        WISH_HOTPLUG * u32::from(wish.allows_hotplug) + WISH_MIRROR * u32::from(wish.demands_mirror)
+    }
+
+    /// The flag of a mark; a wrong one is none, a sum of flags, or above them.
+    pub fn flag(&self, rng: &mut Rng, faults: u64) -> u32 {
+        if rng.percent(faults) {
+            return match rng.below(4) {
+                0 => 0,
+                1 => rng.pick(&[3, 5, 6, 7]),
+                2 => rng.pick(&[8, 9, 12, 16, 256, 1 << 16, 1 << 31]),
+                _ => FLAGS + 1 + rng.below(u64::from(u32::MAX - FLAGS)) as u32,
+            };
+        }
+        rng.pick(&[HOTPLUG, MIRROR, NO_MAP])
+    }
+
     fn tag(&self, rng: &mut Rng, faults: u64) -> (u32, u32) {
         let flags = if rng.percent(faults) {
-            rng.pick(&[1, 2, 3, 5, 6, 7, 8, 12, 1 << 16, 1 << 31, u32::MAX])
+            match rng.below(3) {
+                0 => FLAGS + 1,
+                1 => rng.pick(&[9, 12, 15, 16, 256, 1 << 16, 1 << 31]),
+                _ => u32::MAX - rng.below(u64::from(FLAGS) + 1) as u32,
+            }
         } else {
-            rng.pick(&[0, 0, NO_MAP])
+            some_flags(rng)
         };
         let node = if rng.percent(faults) {
             rng.pick(&[NODES, NODES + 1, 256, 1 << 16, 1 << 31, u32::MAX])
@@ -174,7 +217,7 @@ impl Near {
         (flags, node)
     }
 
-    fn wish(&self, rng: &mut Rng, faults: u64) -> Wish {
+    fn query(&self, rng: &mut Rng, faults: u64) -> Query {
         let alignment = self.alignment(rng, faults);
         let step = u128::from(alignment.max(1));
         // A size that just fits, or just does not, some free run as aligned.
@@ -225,12 +268,13 @@ impl Near {
             0 if !self.runs.is_empty() => self.at_a_run_end(rng),
             _ => (start, end),
         };
-        Wish {
+        Query {
             size,
             alignment,
             start,
             end,
             node: self.search_node(rng, faults),
+            wish: self.wish(rng, faults),
         }
     }
 
@@ -268,11 +312,21 @@ impl Near {
                     _ => self.address(rng),
                 },
                 node: self.search_node(rng, faults),
+                wish: self.wish(rng, faults),
             },
-            Command::Find => Call::Find(self.wish(rng, faults)),
-            Command::Allocate => Call::Allocate(self.wish(rng, faults)),
+            Command::Find => Call::Find(self.query(rng, faults)),
+            Command::Allocate => Call::Allocate(self.query(rng, faults)),
             Command::Intake => Call::Intake(reports::some(rng, self, faults).into()),
             Command::Convert => Call::Convert(editions::some_old(rng, faults).into()),
+            Command::Mark | Command::Unmark => {
+                let (base, size) = self.range(rng);
+                Call::Mark {
+                    command,
+                    base,
+                    size,
+                    flag: self.flag(rng, faults),
+                }
+            }
             _ => {
                 let (base, size) = self.range(rng);
                 Call::Range {

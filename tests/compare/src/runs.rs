@@ -6,10 +6,10 @@ use crate::call::{Call, Command};
 use crate::desk::Desk;
 use crate::rng::Rng;
 use model::layout::*;
-use model::{Board, Direction};
+use model::{Board, Direction, Wish};
 
 /// What can hold of an answer; the window's end is that after the cut to the limit.
-const SIDES: [&str; 10] = [
+const SIDES: [&str; 12] = [
     "a window that ends below the run's end",
     "a window that ends at the run's end",
     "a window that ends above the run's end",
@@ -20,6 +20,8 @@ const SIDES: [&str; 10] = [
     "what is taken behind the run",
     "no-map memory behind the run",
     "another node behind the run",
+    "other flags behind the run that the wish grants too",
+    "other flags behind the run that the wish does not grant",
 ];
 
 /// Searches of find and allocate that gave an address.
@@ -34,7 +36,7 @@ pub struct Runs {
 impl Runs {
     /// A call on a block as it was `before`, with what it answered.
     pub fn note(&mut self, call: &Call, before: &[u8], number: u32, slip: &[u8]) {
-        let (Call::Find(wish) | Call::Allocate(wish)) = call else {
+        let (Call::Find(query) | Call::Allocate(query)) = call else {
             return;
         };
         if number != 0 {
@@ -42,23 +44,29 @@ impl Runs {
         }
         let board = Board::read(before).expect("a search has taken it for good");
         let (a, run_end) = (get_u64(slip, 0), get_u64(slip, 8));
-        let window_end = match wish.end {
+        let window_end = match query.end {
             0 => board.limit,
             named => named.min(board.limit),
         };
+        let tag = board.memory.at(a.into()).expect("memory was given");
         let behind = board.memory.at(run_end.into());
         let taken = board.taken.at(run_end.into());
+        // Memory behind that is free as well, if its flags are granted.
+        let free = behind.filter(|tag| !tag.no_map && !taken);
+        let wish = Wish::named(query.wish).expect("a search has taken it");
         let holds = [
             window_end < run_end,
             window_end == run_end,
             window_end > run_end,
             board.limit < run_end,
-            a + wish.size < run_end,
-            a + wish.size == run_end,
+            a + query.size < run_end,
+            a + query.size == run_end,
             behind.is_none(),
             behind.is_some() && taken,
             behind.is_some_and(|tag| tag.no_map) && !taken,
-            behind.is_some_and(|tag| !tag.no_map) && !taken,
+            free.is_some_and(|other| other.node != tag.node),
+            free.is_some_and(|other| other.node == tag.node && wish.grants(other)),
+            free.is_some_and(|other| other.node == tag.node && !wish.grants(other)),
         ];
         let whose = usize::from(call.command() == Command::Allocate);
         let way = usize::from(board.direction == Direction::BottomUp);
@@ -98,10 +106,11 @@ impl Runs {
 }
 
 /// Next free from the second number of an allocation, on the block that it left.
-pub fn follow(desk: &mut Desk, rng: &mut Rng, block: &mut [u8], slip: &[u8]) {
+pub fn follow(desk: &mut Desk, rng: &mut Rng, wish: u32, block: &mut [u8], slip: &[u8]) {
     let call = Call::NextFree {
         from: get_u64(slip, 8),
         node: ANY_NODE,
+        wish,
     };
     let mut answer = rng.bytes(SLIP_LEN);
     let number = desk.call(&call, block, &mut answer);

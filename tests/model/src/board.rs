@@ -3,25 +3,107 @@
 use crate::layout::*;
 use crate::line::Line;
 
+/// One flag of memory.
+#[derive(Clone, Copy, Debug, PartialEq, Eq)]
+pub enum Flag {
+    Hotplug,
+    Mirror,
+    NoMap,
+}
+
+impl Flag {
+    /// The one flag that a word names.
+    pub fn named(word: u32) -> Option<Flag> {
+        match word {
+            HOTPLUG => Some(Flag::Hotplug),
+            MIRROR => Some(Flag::Mirror),
+            NO_MAP => Some(Flag::NoMap),
+            _ => None,
+        }
+    }
+}
+
 #[derive(Clone, Copy, Debug, PartialEq, Eq)]
 pub struct Tag {
+    pub hotplug: bool,
+    pub mirror: bool,
     pub no_map: bool,
     pub node: u32,
 }
 
 impl Tag {
-    /// The tag that flags and a node say, if both are legal.
-    pub fn legal(flags: u32, node: u32) -> Option<Tag> {
-        let no_map = match flags {
-            0 => false,
-            NO_MAP => true,
-            _ => return None,
-        };
-        (node < NODES).then_some(Tag { no_map, node })
+    /// The tag without flags, of a node that is legal.
+    pub const fn plain(node: u32) -> Tag {
+        Tag {
+            hotplug: false,
+            mirror: false,
+            no_map: false,
+            node,
+        }
     }
 
-    fn words(self) -> (u32, u32) {
-        (if self.no_map { NO_MAP } else { 0 }, self.node)
+    /// The tag that flags and a node say, if both are legal.
+    pub fn legal(flags: u32, node: u32) -> Option<Tag> {
+        let mut tag = Tag::plain(node);
+        // Each flag once at most: what is then left over is none.
+        let mut left = flags;
+        for word in [NO_MAP, MIRROR, HOTPLUG] {
+            if left >= word {
+                left -= word;
+                tag = tag.with(Flag::named(word)?, true);
+            }
+        }
+        (left == 0 && node < NODES).then_some(tag)
+    }
+
+    /// The tag with one flag set or cleared, the others as they are.
+    pub fn with(mut self, flag: Flag, set: bool) -> Tag {
+        match flag {
+            Flag::Hotplug => self.hotplug = set,
+            Flag::Mirror => self.mirror = set,
+            Flag::NoMap => self.no_map = set,
+        }
+        self
+    }
+
+    /// Flags and node as a record has them.
+    pub fn words(self) -> (u32, u32) {
+        let flags = [
+            (self.hotplug, HOTPLUG),
+            (self.mirror, MIRROR),
+            (self.no_map, NO_MAP),
+        ];
+        let sum = flags.iter().filter(|flag| flag.0).map(|flag| flag.1).sum();
+        (sum, self.node)
+    }
+}
+
+/// What a search's wish word says.
+#[derive(Clone, Copy, Debug, PartialEq, Eq)]
+pub struct Wish {
+    pub allows_hotplug: bool,
+    pub demands_mirror: bool,
+}
+
+impl Wish {
+    pub fn named(word: u32) -> Option<Wish> {
+        let (allows_hotplug, demands_mirror) = match word {
+            0 => (false, false),
+            WISH_HOTPLUG => (true, false),
+            WISH_MIRROR => (false, true),
+            WISH_BOTH => (true, true),
+            _ => return None,
+        };
+        Some(Wish {
+            allows_hotplug,
+            demands_mirror,
+        })
+    }
+
+    /// Whether memory of the tag may be given.
+    pub fn grants(self, tag: Tag) -> bool {
+        let refused = tag.hotplug && !self.allows_hotplug || !tag.mirror && self.demands_mirror;
+        !refused
     }
 }
 
@@ -63,7 +145,7 @@ pub struct Board {
 pub struct Run {
     pub lo: u128,
     pub hi: u128,
-    pub node: u32,
+    pub tag: Tag,
 }
 
 /// The addresses a base and a size cover in a table, after the cut at the top.
@@ -169,13 +251,7 @@ impl Board {
                 tag.filter(|tag| !taken && !tag.no_map)
             })
             .stretches()
-            .filter_map(|(lo, hi, tag)| {
-                tag.map(|tag| Run {
-                    lo,
-                    hi,
-                    node: tag.node,
-                })
-            })
+            .filter_map(|(lo, hi, tag)| tag.map(|tag| Run { lo, hi, tag }))
             .collect()
     }
 }

@@ -62,7 +62,7 @@ impl Layout {
 pub const EDITION_1: Layout = Layout::new(1, 128, 128);
 /// The flags of an edition 1 block's memory records, whatever later requests
 /// allow in others.
-pub const EDITION_1_FLAGS: [u32; 2] = [0, 4];
+pub const EDITION_1_FLAGS: [u32; 2] = [0, NO_MAP];
 
 /// The block of all commands, since request E4.
 pub const CURRENT: Layout = Layout::new(2, 128, 512);
@@ -81,12 +81,25 @@ pub const SLIP_LEN: usize = 16;
 /// The limit of a fresh block.
 pub const FRESH_LIMIT: u64 = u64::MAX;
 
-/// The no-map flag, the only one there is.
+/// The flags of memory, since request E6; a word of flags is a sum of them, each
+/// once at most.
+pub const HOTPLUG: u32 = 1;
+pub const MIRROR: u32 = 2;
 pub const NO_MAP: u32 = 4;
+/// The most that a word of flags can be.
+pub const FLAGS: u32 = HOTPLUG + MIRROR + NO_MAP;
 /// Nodes run from 0 to one below this.
 pub const NODES: u32 = 64;
 /// The node that means any node in a search.
 pub const ANY_NODE: u32 = u32::MAX;
+
+/// The wish word of a search, since request E6: this allows hotplug memory,
+pub const WISH_HOTPLUG: u32 = 1;
+/// and this demands mirror memory.
+pub const WISH_MIRROR: u32 = 2;
+/// Both, and the most that a wish can be.
+pub const WISH_BOTH: u32 = WISH_HOTPLUG + WISH_MIRROR;
+
 /// No search begins below this address.
 pub const LOWEST_START: u128 = 4096;
 

@@ -1,7 +1,7 @@
 //! A second program for the memory tables of document 01, the E820 intake of
-//! request E1, the limit of request E3, the larger block of request E4 and the
-//! run's end of request E5, written from those pages alone, to be compared with the
-//! library call by call.
+//! request E1, the limit of request E3, the larger block of request E4, the run's
+//! end of request E5 and the flags and wishes of request E6, written from those
+//! pages alone, to be compared with the library call by call.
 //!
 //! It shares no idea with a program that walks tables of records: a table is a
 //! map from boundary points to states, a search looks at whole free runs and
@@ -13,7 +13,7 @@ pub mod layout;
 mod board;
 mod line;
 
-pub use board::{covered, Board, Direction, Run, Tag};
+pub use board::{covered, Board, Direction, Flag, Run, Tag, Wish};
 pub use line::Line;
 
 use board::{long, narrow, word};
@@ -22,12 +22,13 @@ use layout::*;
 
 /// What find and allocate are asked for.
 #[derive(Clone, Copy, Debug, PartialEq, Eq, Hash)]
-pub struct Wish {
+pub struct Query {
     pub size: u64,
     pub alignment: u64,
     pub start: u64,
     pub end: u64,
     pub node: u32,
+    pub wish: u32,
 }
 
 pub fn fresh(block: &mut [u8]) -> u32 {
@@ -64,25 +65,20 @@ pub fn add(block: &mut [u8], base: u64, size: u64, flags: u32, node: u32) -> u32
 }
 
 pub fn remove(block: &mut [u8], base: u64, size: u64) -> u32 {
-    change_memory(block, base, size, |_| None)
+    let after = good(block).map(|mut board| {
+        let (lo, hi) = covered(base, size);
+        board.memory.paint(lo, hi, |_| None);
+        board
+    });
+    settle(block, after)
 }
 
-pub fn mark(block: &mut [u8], base: u64, size: u64) -> u32 {
-    change_memory(block, base, size, |tag| {
-        Some(Tag {
-            no_map: true,
-            ..tag
-        })
-    })
+pub fn mark(block: &mut [u8], base: u64, size: u64, flag: u32) -> u32 {
+    change_flag(block, base, size, flag, true)
 }
 
-pub fn unmark(block: &mut [u8], base: u64, size: u64) -> u32 {
-    change_memory(block, base, size, |tag| {
-        Some(Tag {
-            no_map: false,
-            ..tag
-        })
-    })
+pub fn unmark(block: &mut [u8], base: u64, size: u64, flag: u32) -> u32 {
+    change_flag(block, base, size, flag, false)
 }
 
 pub fn reserve(block: &mut [u8], base: u64, size: u64) -> u32 {
@@ -106,7 +102,7 @@ pub fn intake_e820(block: &mut [u8], report: &[u8]) -> u32 {
     let after = good(block).and_then(|mut board| {
         for (base, size, kind) in entries(report)? {
             if kind == USABLE {
-                put_in(&mut board, base, size, PLAIN);
+                put_in(&mut board, base, size, Tag::plain(0));
                 // 6 speaks of each step, before any trimming.
                 board.write()?;
             }
@@ -117,13 +113,13 @@ pub fn intake_e820(block: &mut [u8], report: &[u8]) -> u32 {
     settle(block, after)
 }
 
-pub fn next_free(block: &[u8], from: u64, node: u32, slip: &mut [u8]) -> u32 {
+pub fn next_free(block: &[u8], from: u64, node: u32, wish: u32, slip: &mut [u8]) -> u32 {
     if slip.len() != SLIP_LEN {
         return BAD_SLIP;
     }
     let from = u128::from(from);
     let answer = good(block).and_then(|board| {
-        let wanted = asked_for(node)?;
+        let wanted = asked_for(node, wish)?;
         board
             .free_runs()
             .into_iter()
@@ -135,21 +131,21 @@ pub fn next_free(block: &[u8], from: u64, node: u32, slip: &mut [u8]) -> u32 {
     tell(slip, answer)
 }
 
-pub fn find(block: &[u8], wish: &Wish, slip: &mut [u8]) -> u32 {
+pub fn find(block: &[u8], query: &Query, slip: &mut [u8]) -> u32 {
     if slip.len() != SLIP_LEN {
         return BAD_SLIP;
     }
-    let answer = good(block).and_then(|board| place(&board, wish));
+    let answer = good(block).and_then(|board| place(&board, query));
     tell(slip, answer)
 }
 
-pub fn allocate(block: &mut [u8], wish: &Wish, slip: &mut [u8]) -> u32 {
+pub fn allocate(block: &mut [u8], query: &Query, slip: &mut [u8]) -> u32 {
     if slip.len() != SLIP_LEN {
         return BAD_SLIP;
     }
     let answer = good(block).and_then(|mut board| {
-        let (a, end) = place(&board, wish)?;
-        board.taken.paint(a, a + u128::from(wish.size), |_| true);
+        let (a, end) = place(&board, query)?;
+        board.taken.paint(a, a + u128::from(query.size), |_| true);
         block.copy_from_slice(&board.write()?);
         Ok((a, end))
     });
@@ -158,19 +154,19 @@ pub fn allocate(block: &mut [u8], wish: &Wish, slip: &mut [u8]) -> u32 {
 
 /// The address that the rules of find fix and the end of the free run that holds
 /// it, or the refusal.
-fn place(board: &Board, wish: &Wish) -> Result<(u128, u128), u32> {
-    let wanted = asked_for(wish.node)?;
-    let step = step(wish.alignment)?;
-    if wish.size == 0 {
+fn place(board: &Board, query: &Query) -> Result<(u128, u128), u32> {
+    let wanted = asked_for(query.node, query.wish)?;
+    let step = step(query.alignment)?;
+    if query.size == 0 {
         return Err(SIZE_ZERO);
     }
-    let size = u128::from(wish.size);
+    let size = u128::from(query.size);
     // The limit binds: a named end above it is cut to it.
-    let end = match wish.end {
+    let end = match query.end {
         0 => board.limit,
         named => named.min(board.limit),
     };
-    let start = u128::from(wish.start).max(LOWEST_START);
+    let start = u128::from(query.start).max(LOWEST_START);
     let end = u128::from(end).max(start);
 
     let offers = board
@@ -197,11 +193,13 @@ fn good(block: &[u8]) -> Result<Board, u32> {
     Board::read(block).ok_or(NOT_GOOD)
 }
 
-fn asked_for(node: u32) -> Result<impl Fn(&Run) -> bool, u32> {
+/// Whether a run is one of the node and the wish asked for, or the refusal.
+fn asked_for(node: u32, wish: u32) -> Result<impl Fn(&Run) -> bool, u32> {
     if node >= NODES && node != ANY_NODE {
         return Err(BAD_TAG);
     }
-    Ok(move |run: &Run| node == ANY_NODE || node == run.node)
+    let wish = Wish::named(wish).ok_or(BAD_TAG)?;
+    Ok(move |run: &Run| (node == ANY_NODE || node == run.tag.node) && wish.grants(run.tag))
 }
 
 fn step(alignment: u64) -> Result<u128, u32> {
@@ -211,12 +209,6 @@ fn step(alignment: u64) -> Result<u128, u32> {
         Err(BAD_ALIGNMENT)
     }
 }
-
-/// The tag of what an intake adds.
-const PLAIN: Tag = Tag {
-    no_map: false,
-    node: 0,
-};
 
 /// Gives the tag to each address of the range not yet in memory.
 fn put_in(board: &mut Board, base: u64, size: u64, tag: Tag) {
@@ -244,16 +236,13 @@ fn entries(report: &[u8]) -> Result<impl Iterator<Item = (u64, u64, u32)> + '_, 
     Ok(entries.map(|entry| (long(entry, 0), long(entry, 8), word(entry, 16))))
 }
 
-fn change_memory(
-    block: &mut [u8],
-    base: u64,
-    size: u64,
-    change: impl Fn(Tag) -> Option<Tag>,
-) -> u32 {
-    let after = good(block).map(|mut board| {
+fn change_flag(block: &mut [u8], base: u64, size: u64, flag: u32, set: bool) -> u32 {
+    let after = good(block).and_then(|mut board| {
+        let flag = Flag::named(flag).ok_or(BAD_TAG)?;
         let (lo, hi) = covered(base, size);
-        board.memory.paint(lo, hi, |old| old.and_then(&change));
-        board
+        let marked = |tag: Tag| tag.with(flag, set);
+        board.memory.paint(lo, hi, |old| old.map(marked));
+        Ok(board)
     });
     settle(block, after)
 }

@@ -6,7 +6,7 @@
 //! together here with code of its own. For intakes a place of the window is a
 //! quarter of a page, so that there are pages to trim.
 
-use model::Wish;
+use model::Query;
 
 const WINDOW: usize = 1420;
 /// The most records of memory, and of what is taken.
@@ -36,7 +36,21 @@ impl Rng {
     }
 }
 
+/// Flags and node.
 type Tag = (u32, u32);
+
+/// All flags there are, and those of edition 1.
+const FLAGS: [u32; 8] = [0, 1, 2, 3, 4, 5, 6, 7];
+const OLD_FLAGS: [u32; 2] = [0, 4];
+
+/// Whether a wish lets memory of these flags be given: bit by bit.
+fn granted(wish: u32, flags: u32) -> bool {
+    let hotplug = flags % 2 == 1;
+    let mirror = flags / 2 % 2 == 1;
+    let hotplug_allowed = wish % 2 == 1;
+    let mirror_demanded = wish / 2 % 2 == 1;
+    (hotplug_allowed || !hotplug) && (mirror || !mirror_demanded)
+}
 
 #[derive(Clone)]
 struct Toy {
@@ -143,7 +157,7 @@ impl Toy {
     fn free_tag(&self, x: u128) -> Option<Tag> {
         let i = usize::try_from(x.checked_sub(self.origin)?).ok()?;
         let tag = (*self.memory.get(i)?)?;
-        (!self.taken[i] && tag.0 == 0).then_some(tag)
+        (!self.taken[i] && tag.0 < 4).then_some(tag)
     }
 
     /// The end of the free run that holds a free address: upwards while free and of
@@ -156,35 +170,36 @@ impl Toy {
         end as u64
     }
 
-    fn eligible(&self, a: u128, wish: &Wish) -> bool {
-        let size = u128::from(wish.size);
+    fn eligible(&self, a: u128, query: &Query) -> bool {
+        let size = u128::from(query.size);
         let Some(tag) = self.free_tag(a) else {
             return false;
         };
-        a.is_multiple_of(wish.alignment.into())
-            && a >= wish.start.max(4096).into()
+        a.is_multiple_of(query.alignment.into())
+            && a >= query.start.max(4096).into()
             // No size is 0: an end below the start leaves nothing, raised to the
             // start or not.
             && a + size <= self.limit.into()
-            && (wish.end == 0 || a + size <= wish.end.into())
-            && (wish.node == ANY || wish.node == tag.1)
+            && (query.end == 0 || a + size <= query.end.into())
+            && (query.node == ANY || query.node == tag.1)
+            && granted(query.wish, tag.0)
             && size <= WINDOW as u128
             && (a..a + size).all(|x| self.free_tag(x) == Some(tag))
     }
 
-    fn find(&self, wish: &Wish) -> Result<(u64, u64), u32> {
-        if wish.node > 63 && wish.node != ANY {
+    fn find(&self, query: &Query) -> Result<(u64, u64), u32> {
+        if query.node > 63 && query.node != ANY || query.wish > 3 {
             return Err(2);
         }
-        if !wish.alignment.is_power_of_two() {
+        if !query.alignment.is_power_of_two() {
             return Err(3);
         }
-        if wish.size == 0 {
+        if query.size == 0 {
             return Err(4);
         }
         let mut fits = (0..self.memory.len())
             .map(|i| self.address(i))
-            .filter(|&a| self.eligible(a, wish));
+            .filter(|&a| self.eligible(a, query));
         let a = if self.direction == 1 {
             fits.next()
         } else {
@@ -194,8 +209,8 @@ impl Toy {
         Ok((a as u64, self.run_end(a)))
     }
 
-    fn next_free(&self, from: u64, node: u32) -> Result<(u64, u64), u32> {
-        if node > 63 && node != ANY {
+    fn next_free(&self, from: u64, node: u32, wish: u32) -> Result<(u64, u64), u32> {
+        if node > 63 && node != ANY || wish > 3 {
             return Err(2);
         }
         let a = (0..self.memory.len())
@@ -204,7 +219,7 @@ impl Toy {
                 a >= from.into()
                     && self
                         .free_tag(a)
-                        .is_some_and(|tag| node == ANY || node == tag.1)
+                        .is_some_and(|tag| (node == ANY || node == tag.1) && granted(wish, tag.0))
             })
             .ok_or(5u32)?;
         Ok((a as u64, self.run_end(a)))
@@ -245,8 +260,20 @@ fn some_number(rng: &mut Rng, toy: &Toy) -> u64 {
     }
 }
 
-fn some_wish(rng: &mut Rng, toy: &Toy) -> Wish {
-    Wish {
+fn some_query(rng: &mut Rng, toy: &Toy) -> Query {
+    // Now and then one address inside a free run, which needs a record more.
+    if rng.one_in(4) {
+        let start = (toy.origin as u64).saturating_add(inside_a_run(rng, toy));
+        return Query {
+            size: 1,
+            alignment: 1,
+            start,
+            end: start.saturating_add(1),
+            node: ANY,
+            wish: 1,
+        };
+    }
+    Query {
         size: match rng.below(16) {
             0 => 0,
             1 => u64::MAX - rng.below(500),
@@ -269,6 +296,16 @@ fn some_wish(rng: &mut Rng, toy: &Toy) -> Wish {
             _ => 0,
         },
         node: some_node(rng),
+        wish: some_wish(rng),
+    }
+}
+
+fn some_wish(rng: &mut Rng) -> u32 {
+    match rng.below(16) {
+        0 => 4 + rng.below(5) as u32,
+        1 => u32::MAX - rng.below(2) as u32,
+        2..=4 => 1,
+        _ => rng.below(4) as u32,
     }
 }
 
@@ -311,8 +348,8 @@ fn teeth(rng: &mut Rng, count: u64, gap: usize) -> Vec<(usize, usize)> {
 }
 
 /// An empty toy, one of a few long records, or one whose tables are often full
-/// with the most records there may be.
-fn start_toy(rng: &mut Rng, origin: u128, most: [u64; 2]) -> Toy {
+/// with the most records there may be; of these flags.
+fn start_toy(rng: &mut Rng, origin: u128, most: [u64; 2], flags: &[u32]) -> Toy {
     let mut toy = Toy::new(origin, WINDOW);
     toy.direction = rng.below(2) as u32;
     let style = rng.below(8);
@@ -322,7 +359,10 @@ fn start_toy(rng: &mut Rng, origin: u128, most: [u64; 2]) -> Toy {
     if style < 4 {
         for _ in 0..rng.below(8) {
             let lo = rng.below(300);
-            let tag = [(0, 0), (0, 1), (4, 0)][rng.below(3) as usize];
+            let tag = match rng.below(4) {
+                0 | 1 => (0, rng.below(2) as u32),
+                _ => (flags[rng.below(flags.len() as u64) as usize], 0),
+            };
             for i in toy.places(origin as u64 + lo, rng.below(80)) {
                 toy.memory[i] = Some(tag);
             }
@@ -338,18 +378,28 @@ fn start_toy(rng: &mut Rng, origin: u128, most: [u64; 2]) -> Toy {
         _ => most - rng.below(2),
     });
     let touching = rng.one_in(3);
-    let tags = [(0, 0), (4, 0), (0, 1), (4, 1)];
+    let some_flags = !rng.one_in(4);
     for (k, (lo, hi)) in teeth(rng, m, if touching { 0 } else { 1 })
         .into_iter()
         .enumerate()
     {
-        // Neighbours that touch never have the same place in `tags`.
-        let tag = tags[(k % 2 + 2 * rng.below(2) as usize) % 4];
+        // Neighbours that touch are of nodes 0 or 2 and of nodes 1 or 3, or of flags
+        // from the even and from the odd places of the list.
+        let (even, half) = (k % 2, rng.below(2) as usize);
+        let tag = if some_flags {
+            // No-map not too often.
+            let pairs = flags.len() as u64 / 2;
+            let place = even + 2 * rng.below(pairs).min(rng.below(pairs)) as usize;
+            (flags[place], half as u32)
+        } else {
+            (0, (even + 2 * half) as u32)
+        };
         toy.memory[lo..hi].fill(Some(tag));
     }
     // Or memory everywhere, so that a search meets all that is taken.
-    if rng.one_in(4) {
-        toy.memory.fill(Some((0, 0)));
+    if rng.one_in(3) {
+        let flags = flags[usize::from(rng.one_in(4))];
+        toy.memory.fill(Some((flags, 0)));
     }
     for (lo, hi) in teeth(rng, t, 1) {
         toy.taken[lo..hi].fill(true);
@@ -378,9 +428,23 @@ fn inner_place(rng: &mut Rng, toy: &Toy) -> u64 {
     first as u64 + 1
 }
 
+/// The same of some free run.
+fn inside_a_run(rng: &mut Rng, toy: &Toy) -> u64 {
+    let free: Vec<_> = (0..toy.memory.len())
+        .map(|i| toy.free_tag(toy.address(i)))
+        .collect();
+    let mut runs = Toy::groups(&free);
+    runs.retain(|(first, past, _)| past - first > 2);
+    if runs.is_empty() {
+        return 0;
+    }
+    let (first, _, _) = runs[rng.below(runs.len() as u64) as usize];
+    first as u64 + 1
+}
+
 fn walk(seed: u64, origin: u128, steps: usize, seen: &mut [[u64; 9]; 12]) {
     let mut rng = Rng(seed);
-    let mut toy = start_toy(&mut rng, origin, MOST);
+    let mut toy = start_toy(&mut rng, origin, MOST, &FLAGS);
     let mut block = toy.block().expect("no more records than fit");
     assert!(model::Board::read(&block).is_some());
     for step in 0..steps {
@@ -427,9 +491,13 @@ fn walk(seed: u64, origin: u128, steps: usize, seen: &mut [[u64; 9]; 12]) {
                 (model::set(&mut said, limit, direction), number)
             }
             2 => {
-                let flags = [0, 0, 0, 0, 4, 4, 1, 8][rng.below(8) as usize];
+                let flags = match rng.below(8) {
+                    0 => 8 + rng.below(2) as u32,
+                    1..=3 => 0,
+                    _ => rng.below(8) as u32,
+                };
                 let node = [0, 0, 1, 2, 63, 64][rng.below(6) as usize];
-                let number = if (flags != 0 && flags != 4) || node > 63 {
+                let number = if flags > 7 || node > 63 {
                     2
                 } else {
                     for i in toy.places(base, size) {
@@ -445,17 +513,31 @@ fn walk(seed: u64, origin: u128, steps: usize, seen: &mut [[u64; 9]; 12]) {
                 }
                 (model::remove(&mut said, base, size), keep(&mut toy, next))
             }
-            4 => {
-                for i in toy.places(base, size) {
-                    next.memory[i] = next.memory[i].map(|(_, node)| (4, node));
-                }
-                (model::mark(&mut said, base, size), keep(&mut toy, next))
-            }
-            5 => {
-                for i in toy.places(base, size) {
-                    next.memory[i] = next.memory[i].map(|(_, node)| (0, node));
-                }
-                (model::unmark(&mut said, base, size), keep(&mut toy, next))
+            4 | 5 => {
+                let flag = match rng.below(8) {
+                    0 => [0, 3, 5, 6, 7, 8, 1 << 31][rng.below(7) as usize],
+                    _ => 1 << rng.below(3),
+                };
+                let number = if ![1, 2, 4].contains(&flag) {
+                    2
+                } else {
+                    for i in toy.places(base, size) {
+                        if let Some((flags, _)) = &mut next.memory[i] {
+                            let there = *flags / flag % 2 == 1;
+                            match command {
+                                4 if !there => *flags += flag,
+                                5 if there => *flags -= flag,
+                                _ => {}
+                            }
+                        }
+                    }
+                    keep(&mut toy, next)
+                };
+                let said_number = match command {
+                    4 => model::mark(&mut said, base, size, flag),
+                    _ => model::unmark(&mut said, base, size, flag),
+                };
+                (said_number, number)
             }
             6 => {
                 for i in toy.places(base, size) {
@@ -488,20 +570,21 @@ fn walk(seed: u64, origin: u128, steps: usize, seen: &mut [[u64; 9]; 12]) {
             9 => {
                 let from = some_number(&mut rng, &toy);
                 let node = some_node(&mut rng);
-                let (number, wanted) = slip_of(toy.next_free(from, node));
+                let wish = some_wish(&mut rng);
+                let (number, wanted) = slip_of(toy.next_free(from, node, wish));
                 slip_wanted = wanted;
-                (model::next_free(&said, from, node, &mut slip), number)
+                (model::next_free(&said, from, node, wish, &mut slip), number)
             }
             10 => {
-                let wish = some_wish(&mut rng, &toy);
-                let (number, wanted) = slip_of(toy.find(&wish));
+                let query = some_query(&mut rng, &toy);
+                let (number, wanted) = slip_of(toy.find(&query));
                 slip_wanted = wanted;
-                (model::find(&said, &wish, &mut slip), number)
+                (model::find(&said, &query, &mut slip), number)
             }
             _ => {
-                let wish = some_wish(&mut rng, &toy);
-                let answer = toy.find(&wish).and_then(|(a, end)| {
-                    for i in toy.places(a, wish.size) {
+                let query = some_query(&mut rng, &toy);
+                let answer = toy.find(&query).and_then(|(a, end)| {
+                    for i in toy.places(a, query.size) {
                         next.taken[i] = true;
                     }
                     match keep(&mut toy, next) {
@@ -511,7 +594,7 @@ fn walk(seed: u64, origin: u128, steps: usize, seen: &mut [[u64; 9]; 12]) {
                 });
                 let (number, wanted) = slip_of(answer);
                 slip_wanted = wanted;
-                (model::allocate(&mut said, &wish, &mut slip), number)
+                (model::allocate(&mut said, &query, &mut slip), number)
             }
         };
         assert_eq!(got, wanted, "seed {seed} step {step} command {command}");
@@ -547,8 +630,8 @@ fn random_walks_address_by_address() {
     for (command, numbers) in [
         (2, vec![0, 2, 6]),
         (3, vec![0, 6]),
-        (4, vec![0, 6]),
-        (5, vec![0, 6]),
+        (4, vec![0, 2, 6]),
+        (5, vec![0, 2, 6]),
         (6, vec![0, 6]),
         (7, vec![0, 6]),
         (8, vec![0, 3]),
@@ -578,7 +661,7 @@ fn conversions_bit_by_bit() {
     for seed in 0..300 {
         let mut rng = Rng(seed);
         let origin = [4096 - 40, LAST - 1400, 0, 1 << 40][seed as usize % 4];
-        let mut toy = start_toy(&mut rng, origin, OLD_MOST);
+        let mut toy = start_toy(&mut rng, origin, OLD_MOST, &OLD_FLAGS);
         toy.limit = some_number(&mut rng, &toy);
         let old = toy.old_block().expect("no more records than fit");
         let mut said = any(&mut rng);
@@ -624,6 +707,108 @@ fn conversions_bit_by_bit() {
     assert_eq!(fills, [128, 128]);
 }
 
+/// Toys with the flags of one record changed: every flags 0 to 7 in a block of today,
+/// 0 and 4 alone in one of edition 1, unless the record then meets its like.
+#[test]
+fn flags_record_by_record() {
+    // By edition: good ones and bad ones.
+    let mut met = [[0; 2]; 2];
+    for seed in 0..300 {
+        let mut rng = Rng(seed);
+        let mut toy = start_toy(&mut rng, 1 << 40, OLD_MOST, &OLD_FLAGS);
+        let [groups, _] = toy.tables();
+        if groups.is_empty() {
+            continue;
+        }
+        let which = rng.below(groups.len() as u64) as usize;
+        let (first, past, (_, node)) = groups[which];
+        for flags in 0..12u32 {
+            toy.memory[first..past].fill(Some((flags, node)));
+            let shortest = toy.tables()[0].len() == groups.len();
+            for (edition, block) in [toy.block(), toy.old_block()].into_iter().enumerate() {
+                // Written with its like merged, the records would be others.
+                let Some(block) = block.filter(|_| shortest) else {
+                    continue;
+                };
+                let legal = match edition {
+                    0 => flags <= 7,
+                    _ => flags == 0 || flags == 4,
+                };
+                let mut said = vec![7; 15440];
+                let good = match edition {
+                    0 => model::Board::read(&block).is_some(),
+                    _ => model::convert(&block, &mut said) == 0,
+                };
+                assert_eq!(good, legal, "seed {seed} edition {edition} flags {flags}");
+                if edition == 1 && good {
+                    assert!(said == toy.block().unwrap(), "seed {seed} flags {flags}");
+                }
+                met[edition][usize::from(!good)] += 1;
+            }
+        }
+    }
+    assert!(met.iter().flatten().all(|&count| count >= 300), "{met:?}");
+}
+
+/// All memory over four addresses around 4096, of all flags or taken, with every
+/// wish: all searches of one and two addresses in both directions, and next free.
+#[test]
+fn every_small_wish() {
+    const WIDE: usize = 4;
+    const FIRST: u64 = 4096 - 1;
+    // No memory, each flags, plain memory that is taken.
+    const STATES: usize = 10;
+    let mut searches = 0;
+    // Answers by wish.
+    let mut given = [0; 4];
+    for states in 0..STATES.pow(WIDE as u32) {
+        let mut toy = Toy::new(FIRST.into(), WIDE);
+        for i in 0..WIDE {
+            let state = states / STATES.pow(i as u32) % STATES;
+            toy.memory[i] = match state {
+                0 => None,
+                9 => Some((0, 0)),
+                _ => Some((state as u32 - 1, 0)),
+            };
+            toy.taken[i] = state == 9;
+        }
+        for direction in [0, 1] {
+            toy.direction = direction;
+            let block = toy.block().unwrap();
+            for wish in 0..4 {
+                for size in 1..=2 {
+                    let query = Query {
+                        size,
+                        alignment: 1,
+                        start: 0,
+                        end: 0,
+                        node: ANY,
+                        wish,
+                    };
+                    let (number, slip_wanted) = slip_of(toy.find(&query));
+                    let mut slip = [9; 16];
+                    assert_eq!(model::find(&block, &query, &mut slip), number);
+                    assert_eq!(slip[..], slip_wanted[..]);
+                    given[wish as usize] += usize::from(number == 0);
+                    searches += 1;
+                }
+                if direction == 0 {
+                    let from = FIRST + states as u64 % WIDE as u64;
+                    let (number, slip_wanted) = slip_of(toy.next_free(from, ANY, wish));
+                    let mut slip = [9; 16];
+                    let said = model::next_free(&block, from, ANY, wish, &mut slip);
+                    assert_eq!((said, &slip[..]), (number, &slip_wanted[..]));
+                    searches += 1;
+                }
+            }
+        }
+    }
+    assert_eq!(searches, 10_000 * 4 * 5);
+    // Wish 1 grants four of the flags, 0 and 3 grant two, 2 grants one.
+    let [none, hotplug, mirror, both] = given;
+    assert!(hotplug > none && none == both && both > mirror && mirror > 0);
+}
+
 /// All tables over five addresses around 4096, all small searches on them.
 #[test]
 fn every_small_search() {
@@ -653,16 +838,17 @@ fn every_small_search() {
                             (0, 4098, ANY),
                             (4097, 4099, 0),
                         ] {
-                            let wish = Wish {
+                            let query = Query {
                                 size,
                                 alignment,
                                 start,
                                 end,
                                 node,
+                                wish: 0,
                             };
-                            let (number, slip_wanted) = slip_of(toy.find(&wish));
+                            let (number, slip_wanted) = slip_of(toy.find(&query));
                             let mut slip = [9; 16];
-                            assert_eq!(model::find(&block, &wish, &mut slip), number);
+                            assert_eq!(model::find(&block, &query, &mut slip), number);
                             assert_eq!(slip[..], slip_wanted[..]);
                             searches += 1;
                         }
@@ -704,20 +890,21 @@ fn every_small_limit() {
                 for &start in &edges {
                     for &end in &edges {
                         for size in 1..=3 {
-                            let wish = Wish {
+                            let query = Query {
                                 size,
                                 alignment: 1,
                                 start,
                                 end,
                                 node: ANY,
+                                wish: 0,
                             };
-                            let found = toy.find(&wish);
+                            let found = toy.find(&query);
                             let (number, slip_wanted) = slip_of(found);
                             let mut slip = [9; 16];
-                            assert_eq!(model::find(&block, &wish, &mut slip), number);
+                            assert_eq!(model::find(&block, &query, &mut slip), number);
                             assert_eq!(slip[..], slip_wanted[..]);
                             searches += 1;
-                            if end > limit && found != unlimited.find(&wish) {
+                            if end > limit && found != unlimited.find(&query) {
                                 cut += 1;
                             }
                             if let Ok((_, run_end)) = found {
@@ -760,8 +947,11 @@ fn intake_toy(rng: &mut Rng, origin: u128) -> Toy {
     for _ in 0..count {
         let lo = at + 1 + rng.below(4) as usize;
         at = lo + 1 + rng.below(6) as usize;
-        let node = if plain { 0 } else { 1 + rng.below(2) as u32 };
-        toy.memory[lo..at].fill(Some((0, node)));
+        let tag = match rng.below(2) as u32 {
+            _ if plain => (0, 0),
+            node => (rng.below(8) as u32, 1 + node),
+        };
+        toy.memory[lo..at].fill(Some(tag));
     }
     let taken = rng.below(5);
     for (lo, hi) in teeth(rng, taken, 1) {

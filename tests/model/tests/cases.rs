@@ -1,11 +1,11 @@
 //! Document 01's own examples: the printed block, the twelve cases, the table
 //! of numbers on both sides, and the slips already paid for, on the block of
 //! request E4. Then the E820 intake of request E1, the limit of request E3, the
-//! conversion of request E4 and the run's end of request E5, each rule on both
-//! sides of its edge.
+//! conversion of request E4, the run's end of request E5 and the flags and wishes
+//! of request E6, each rule on both sides of its edge.
 
 use model::layout::*;
-use model::Wish;
+use model::Query;
 
 const TOP_DOWN: u32 = 0;
 const BOTTOM_UP: u32 = 1;
@@ -34,13 +34,14 @@ fn turned(mut block: Vec<u8>, direction: u32) -> Vec<u8> {
     block
 }
 
-fn wish(size: u64, alignment: u64) -> Wish {
-    Wish {
+fn query(size: u64, alignment: u64) -> Query {
+    Query {
         size,
         alignment,
         start: 0,
         end: 0,
         node: ANY_NODE,
+        wish: 0,
     }
 }
 
@@ -54,22 +55,22 @@ fn read_slip(number: u32, slip: &[u8]) -> Result<(u64, u64), u32> {
     Ok((half(0), half(8)))
 }
 
-fn find(block: &[u8], wish: &Wish) -> Result<(u64, u64), u32> {
+fn find(block: &[u8], query: &Query) -> Result<(u64, u64), u32> {
     let mut slip = vec![0x77; 16];
-    let number = model::find(block, wish, &mut slip);
+    let number = model::find(block, query, &mut slip);
     read_slip(number, &slip)
 }
 
 fn find_address(block: &[u8], size: u64, alignment: u64) -> Result<u64, u32> {
-    let (a, end) = find(block, &wish(size, alignment))?;
+    let (a, end) = find(block, &query(size, alignment))?;
     assert_eq!(next_free(block, a, ANY_NODE), Ok((a, end)));
     Ok(a)
 }
 
-fn allocate(block: &mut [u8], wish: &Wish) -> Result<(u64, u64), u32> {
+fn allocate(block: &mut [u8], query: &Query) -> Result<(u64, u64), u32> {
     let before = block.to_vec();
     let mut slip = vec![0x77; 16];
-    let number = model::allocate(block, wish, &mut slip);
+    let number = model::allocate(block, query, &mut slip);
     if number != 0 {
         assert_eq!(block, before);
     }
@@ -77,8 +78,12 @@ fn allocate(block: &mut [u8], wish: &Wish) -> Result<(u64, u64), u32> {
 }
 
 fn next_free(block: &[u8], from: u64, node: u32) -> Result<(u64, u64), u32> {
+    next_free_of(block, from, node, 0)
+}
+
+fn next_free_of(block: &[u8], from: u64, node: u32, wish: u32) -> Result<(u64, u64), u32> {
     let mut slip = vec![0x77; 16];
-    let number = model::next_free(block, from, node, &mut slip);
+    let number = model::next_free(block, from, node, wish, &mut slip);
     read_slip(number, &slip)
 }
 
@@ -179,7 +184,7 @@ fn printed_block() {
 
 #[test]
 fn case_01_both_directions() {
-    let ask = wish(0x1000, 0x1000);
+    let ask = query(0x1000, 0x1000);
     assert_eq!(find(&turned(m(), BOTTOM_UP), &ask), Ok((0x10000, 0x20000)));
     assert_eq!(find(&turned(m(), TOP_DOWN), &ask), Ok((0x1F000, 0x20000)));
     assert_eq!(find(&m(), &ask), Ok((0x1F000, 0x20000)));
@@ -188,7 +193,7 @@ fn case_01_both_directions() {
 #[test]
 fn case_02_and_03_allocate_twice_then_free() {
     let mut block = m();
-    let ask = wish(0x1000, 0x1000);
+    let ask = query(0x1000, 0x1000);
     assert_eq!(allocate(&mut block, &ask), Ok((0x1F000, 0x20000)));
     assert_eq!(allocate(&mut block, &ask), Ok((0x1E000, 0x1F000)));
     assert_eq!(records(&block, &TAKEN), [(0x1E000, 0x2000, 0, 0)]);
@@ -360,8 +365,8 @@ fn all_commands(block: &[u8]) -> Vec<u32> {
         |b| model::set(b, 5, 1),
         |b| model::add(b, 0x30000, 1, 0, 0),
         |b| model::remove(b, 0x10000, 1),
-        |b| model::mark(b, 0x10000, 1),
-        |b| model::unmark(b, 0x10000, 1),
+        |b| model::mark(b, 0x10000, 1, NO_MAP),
+        |b| model::unmark(b, 0x10000, 1, NO_MAP),
         |b| model::reserve(b, 0x10000, 1),
         |b| model::free(b, 0x10000, 1),
         |b| model::trim(b, 4096),
@@ -377,8 +382,8 @@ fn all_commands(block: &[u8]) -> Vec<u32> {
     }
     let number = |answer: Result<(u64, u64), u32>| answer.err().unwrap_or(0);
     numbers.push(number(next_free(block, 0, ANY_NODE)));
-    numbers.push(number(find(block, &wish(1, 1))));
-    numbers.push(number(allocate(&mut block.to_vec(), &wish(1, 1))));
+    numbers.push(number(find(block, &query(1, 1))));
+    numbers.push(number(allocate(&mut block.to_vec(), &query(1, 1))));
     numbers
 }
 
@@ -437,11 +442,17 @@ fn number_1_every_way_a_block_can_be_bad() {
         (72, 1),
         (76, 1 << 31),
         // illegal flags and nodes in memory, any tag in taken
-        (80 + 16, 1),
         (80 + 16, 8),
+        (80 + 16, 12),
+        (80 + 16, 1 << 31),
+        (80 + 16, u32::MAX),
         (80 + 20, 64),
         (80 + 20, u32::MAX),
+        (3152 + 16, 1),
+        (3152 + 16, 2),
         (3152 + 16, 4),
+        (3152 + 16, 7),
+        (3152 + 16, 8),
         (3152 + 20, 1),
         // bytes past the count
         (80 + 3 * 24, 1),
@@ -533,13 +544,9 @@ fn number_2_tags() {
         (4, 63, 0),
         (0, 64, 2),
         (4, u32::MAX, 2),
-        (1, 0, 2),
-        (2, 0, 2),
-        (3, 0, 2),
-        (5, 0, 2),
-        (6, 0, 2),
-        (7, 0, 2),
+        (7, 64, 2),
         (8, 0, 2),
+        (8, 63, 2),
         (u32::MAX, 64, 2),
     ] {
         let mut block = m();
@@ -551,7 +558,10 @@ fn number_2_tags() {
         assert_eq!(block, m());
     }
     for (node, number) in [(0, 0), (63, 5), (64, 2), (u32::MAX - 1, 2), (ANY_NODE, 0)] {
-        let ask = Wish { node, ..wish(1, 1) };
+        let ask = Query {
+            node,
+            ..query(1, 1)
+        };
         assert_eq!(find(&m(), &ask).err().unwrap_or(0), number);
         assert_eq!(allocate(&mut m(), &ask).err().unwrap_or(0), number);
         assert_eq!(next_free(&m(), 0, node).err().unwrap_or(0), number);
@@ -562,13 +572,13 @@ fn number_2_tags() {
 fn number_3_alignment() {
     for bit in 0..64 {
         let alignment = 1u64 << bit;
-        assert_ne!(find(&m(), &wish(1, alignment)), Err(3));
-        assert_ne!(allocate(&mut m(), &wish(1, alignment)), Err(3));
+        assert_ne!(find(&m(), &query(1, alignment)), Err(3));
+        assert_ne!(allocate(&mut m(), &query(1, alignment)), Err(3));
         assert_eq!(model::trim(&mut m(), alignment), 0);
     }
     for alignment in [0, 3, 5, 6, 4095, 4097, (1 << 63) + 1, u64::MAX] {
-        assert_eq!(find(&m(), &wish(1, alignment)), Err(3));
-        assert_eq!(allocate(&mut m(), &wish(1, alignment)), Err(3));
+        assert_eq!(find(&m(), &query(1, alignment)), Err(3));
+        assert_eq!(allocate(&mut m(), &query(1, alignment)), Err(3));
         let mut block = m();
         assert_eq!(model::trim(&mut block, alignment), 3);
         assert_eq!(block, m());
@@ -577,15 +587,15 @@ fn number_3_alignment() {
 
 #[test]
 fn number_4_size_zero() {
-    assert_eq!(find(&m(), &wish(0, 1)), Err(4));
-    assert_eq!(allocate(&mut m(), &wish(0, 1)), Err(4));
-    assert!(find(&m(), &wish(1, 1)).is_ok());
+    assert_eq!(find(&m(), &query(0, 1)), Err(4));
+    assert_eq!(allocate(&mut m(), &query(0, 1)), Err(4));
+    assert!(find(&m(), &query(1, 1)).is_ok());
     // In a table command a size of 0 is done and changes nothing.
     let mut block = m();
     assert_eq!(model::add(&mut block, 0x11000, 0, 4, 9), 0);
     assert_eq!(model::remove(&mut block, 0x11000, 0), 0);
-    assert_eq!(model::mark(&mut block, 0x11000, 0), 0);
-    assert_eq!(model::unmark(&mut block, 0x11000, 0), 0);
+    assert_eq!(model::mark(&mut block, 0x11000, 0, NO_MAP), 0);
+    assert_eq!(model::unmark(&mut block, 0x11000, 0, NO_MAP), 0);
     assert_eq!(model::reserve(&mut block, 0x11000, 0), 0);
     assert_eq!(model::free(&mut block, 0x11000, 0), 0);
     assert_eq!(block, m());
@@ -598,10 +608,10 @@ fn number_5_windows() {
         let window = |size, start, end| {
             find(
                 &block,
-                &Wish {
+                &Query {
                     start,
                     end,
-                    ..wish(size, 1)
+                    ..query(size, 1)
                 },
             )
             .map(|(a, _)| a)
@@ -622,14 +632,14 @@ fn number_6_in_each_command() {
     // add, remove, mark and unmark on a full memory table
     let full = comb();
     let mut block = full.clone();
-    assert_eq!(model::mark(&mut block, 0x2000, 1), 6);
+    assert_eq!(model::mark(&mut block, 0x2000, 1, NO_MAP), 6);
     assert_eq!(block, full);
-    assert_eq!(model::mark(&mut block, 0x2000, 0x1000), 0);
+    assert_eq!(model::mark(&mut block, 0x2000, 0x1000, NO_MAP), 0);
     assert_eq!(records(&block, &MEMORY).len(), 128);
     let marked = block.clone();
-    assert_eq!(model::unmark(&mut block, 0x2800, 0x10), 6);
+    assert_eq!(model::unmark(&mut block, 0x2800, 0x10, NO_MAP), 6);
     assert_eq!(block, marked);
-    assert_eq!(model::unmark(&mut block, 0x2000, 0x1000), 0);
+    assert_eq!(model::unmark(&mut block, 0x2000, 0x1000, NO_MAP), 0);
     assert_eq!(block, full);
     assert_eq!(model::add(&mut block, 0x3000, 1, 0, 1), 6);
     assert_eq!(model::add(&mut block, 0x3000, 1, 0, 0), 0);
@@ -648,12 +658,15 @@ fn number_6_in_each_command() {
     let mut block = full.clone();
     assert_eq!(model::add(&mut block, 0x200_0000, 0x1000, 0, 0), 0);
     assert_eq!(find_address(&block, 0x1000, 1), Ok(0x200_0000));
-    assert_eq!(allocate(&mut block, &wish(0x1000, 1)), Err(6));
+    assert_eq!(allocate(&mut block, &query(0x1000, 1)), Err(6));
     // There is no second try at an address that would merge.
     assert_eq!(model::add(&mut block, 0x1000, 0x1000, 0, 0), 0);
-    assert_eq!(allocate(&mut block, &wish(0x1000, 1)), Err(6));
+    assert_eq!(allocate(&mut block, &query(0x1000, 1)), Err(6));
     assert_eq!(model::set(&mut block, u64::MAX, BOTTOM_UP), 0);
-    assert_eq!(allocate(&mut block, &wish(0x1000, 1)), Ok((0x1000, 0x2000)));
+    assert_eq!(
+        allocate(&mut block, &query(0x1000, 1)),
+        Ok((0x1000, 0x2000))
+    );
     assert_eq!(records(&block, &TAKEN).len(), 511);
 }
 
@@ -678,9 +691,9 @@ fn number_8_slip_length() {
         for mut block in [m(), vec![0; 10]] {
             let before = block.clone();
             let mut slip = vec![0x5A; len];
-            assert_eq!(model::find(&block, &wish(1, 1), &mut slip), 8);
-            assert_eq!(model::allocate(&mut block, &wish(1, 1), &mut slip), 8);
-            assert_eq!(model::next_free(&block, 0, ANY_NODE, &mut slip), 8);
+            assert_eq!(model::find(&block, &query(1, 1), &mut slip), 8);
+            assert_eq!(model::allocate(&mut block, &query(1, 1), &mut slip), 8);
+            assert_eq!(model::next_free(&block, 0, ANY_NODE, 0, &mut slip), 8);
             assert_eq!(slip, vec![0x5A; len]);
             assert_eq!(block, before);
         }
@@ -691,28 +704,32 @@ fn number_8_slip_length() {
 fn the_first_number_wins() {
     // Everything wrong at once, then one fault less at a time.
     let bad = vec![0; 7];
-    let worst = Wish {
+    let worst = Query {
         size: 0,
         alignment: 3,
         start: 0,
         end: 0,
         node: 64,
+        wish: 4,
     };
     assert_eq!(model::find(&bad, &worst, &mut [1; 15]), 8);
     assert_eq!(find(&bad, &worst), Err(1));
     assert_eq!(find(&fresh(), &worst), Err(2));
-    let worst = Wish { node: 63, ..worst };
+    assert_eq!(find(&fresh(), &Query { wish: 3, ..worst }), Err(2));
+    let worst = Query { node: 63, ..worst };
+    assert_eq!(find(&fresh(), &worst), Err(2));
+    let worst = Query { wish: 3, ..worst };
     assert_eq!(find(&fresh(), &worst), Err(3));
-    let worst = Wish {
+    let worst = Query {
         alignment: 2,
         ..worst
     };
     assert_eq!(find(&fresh(), &worst), Err(4));
-    let worst = Wish { size: 1, ..worst };
+    let worst = Query { size: 1, ..worst };
     assert_eq!(find(&fresh(), &worst), Err(5));
     assert_eq!(model::set(&mut bad.clone(), 0, 2), 1);
-    assert_eq!(model::add(&mut bad.clone(), 0, 0, 1, 64), 1);
-    assert_eq!(model::add(&mut comb(), 0x200_0000, 1, 1, 0), 2);
+    assert_eq!(model::add(&mut bad.clone(), 0, 0, 8, 64), 1);
+    assert_eq!(model::add(&mut comb(), 0x200_0000, 1, 8, 0), 2);
     assert_eq!(model::trim(&mut bad.clone(), 0), 1);
 }
 
@@ -777,7 +794,7 @@ fn slip_touching_ends_with_other_tags_stay_apart() {
     assert_eq!(model::add(&mut block, 0x2000, 0x1000, 0, 1), 0);
     assert_eq!(model::add(&mut block, 0x3000, 0x1000, 4, 1), 0);
     assert_eq!(records(&block, &MEMORY).len(), 3);
-    assert_eq!(model::mark(&mut block, 0x2000, 0x1000), 0);
+    assert_eq!(model::mark(&mut block, 0x2000, 0x1000, NO_MAP), 0);
     assert_eq!(
         records(&block, &MEMORY),
         [(0x1000, 0x1000, 0, 0), (0x2000, 0x2000, 4, 1)]
@@ -787,7 +804,7 @@ fn slip_touching_ends_with_other_tags_stay_apart() {
 #[test]
 fn no_map_and_taken_are_never_offered() {
     let mut block = m();
-    assert_eq!(model::mark(&mut block, 0x10000, 0x8000), 0);
+    assert_eq!(model::mark(&mut block, 0x10000, 0x8000, NO_MAP), 0);
     assert_eq!(model::reserve(&mut block, 0x18000, 0x7FFF), 0);
     assert_eq!(find_address(&block, 1, 1), Ok(0x1FFFF));
     assert_eq!(find_address(&block, 2, 1), Err(5));
@@ -1176,22 +1193,23 @@ fn intake_in_every_order() {
 
 /// What find gives on a block in both directions, bottom-up first: the run's end is
 /// that of next free there, and allocate gives the same.
-fn both_runs(block: &[u8], limit: u64, wish: &Wish) -> [Result<(u64, u64), u32>; 2] {
+fn both_runs(block: &[u8], limit: u64, query: &Query) -> [Result<(u64, u64), u32>; 2] {
     [BOTTOM_UP, TOP_DOWN].map(|direction| {
         let mut block = block.to_vec();
         assert_eq!(model::set(&mut block, limit, direction), 0);
-        let found = find(&block, wish);
+        let found = find(&block, query);
         if let Ok((a, end)) = found {
-            assert_eq!(next_free(&block, a, ANY_NODE), Ok((a, end)));
+            let next = next_free_of(&block, a, ANY_NODE, query.wish);
+            assert_eq!(next, Ok((a, end)));
         }
-        assert_eq!(allocate(&mut block, wish), found);
+        assert_eq!(allocate(&mut block, query), found);
         found
     })
 }
 
 /// The addresses of these, with memory in the ranges and nothing taken.
-fn both(ranges: &[(u64, u64)], limit: u64, wish: &Wish) -> [Result<u64, u32>; 2] {
-    both_runs(&memory(ranges), limit, wish).map(|found| found.map(|(a, _)| a))
+fn both(ranges: &[(u64, u64)], limit: u64, query: &Query) -> [Result<u64, u32>; 2] {
+    both_runs(&memory(ranges), limit, query).map(|found| found.map(|(a, _)| a))
 }
 
 const M: [(u64, u64); 1] = [(0x10000, 0x20000)];
@@ -1199,9 +1217,9 @@ const M: [(u64, u64); 1] = [(0x10000, 0x20000)];
 #[test]
 fn limit_cuts_a_named_end() {
     let with = |size, end| {
-        let named = Wish {
+        let named = Query {
             end,
-            ..wish(size, 1)
+            ..query(size, 1)
         };
         both(&M, 0x18000, &named)
     };
@@ -1223,14 +1241,14 @@ fn limit_cuts_a_named_end() {
 fn limit_at_or_below_4096_leaves_nothing() {
     for end in [0, 1, 4095, 4096, 4097, 0x20000, u64::MAX] {
         for limit in [0, 1, 4095, 4096] {
-            let named = Wish { end, ..wish(1, 1) };
+            let named = Query { end, ..query(1, 1) };
             assert_eq!(both(&[(0, 0x20000)], limit, &named), [Err(5); 2]);
         }
     }
     for end in [0, 4097, 4098, u64::MAX] {
-        let named = Wish { end, ..wish(1, 1) };
+        let named = Query { end, ..query(1, 1) };
         assert_eq!(both(&[(0, 0x20000)], 4097, &named), [Ok(4096); 2]);
-        let two = Wish { end, ..wish(2, 1) };
+        let two = Query { end, ..query(2, 1) };
         assert_eq!(both(&[(0, 0x20000)], 4097, &two), [Err(5); 2]);
     }
 }
@@ -1239,22 +1257,22 @@ fn limit_at_or_below_4096_leaves_nothing() {
 fn limit_at_or_below_the_start_leaves_nothing() {
     for end in [0, 0x17FFF, 0x18000, 0x18001, 0x1C000, u64::MAX] {
         for start in [0x18000, 0x18001, 0x1BFFF, 0x20000, u64::MAX] {
-            let named = Wish {
+            let named = Query {
                 start,
                 end,
-                ..wish(1, 1)
+                ..query(1, 1)
             };
             assert_eq!(both(&M, 0x18000, &named), [Err(5); 2]);
         }
     }
     for end in [0, 0x18000, 0x18001, u64::MAX] {
-        let last = Wish {
+        let last = Query {
             start: 0x17FFF,
             end,
-            ..wish(1, 1)
+            ..query(1, 1)
         };
         assert_eq!(both(&M, 0x18000, &last), [Ok(0x17FFF); 2]);
-        assert_eq!(both(&M, 0x18000, &Wish { size: 2, ..last }), [Err(5); 2]);
+        assert_eq!(both(&M, 0x18000, &Query { size: 2, ..last }), [Err(5); 2]);
     }
 }
 
@@ -1263,13 +1281,13 @@ fn limit_at_the_top() {
     let page = u64::MAX - 4095;
     let last = [(page, u64::MAX)];
     for end in [0, u64::MAX] {
-        let all = Wish {
+        let all = Query {
             end,
-            ..wish(0xFFF, 1)
+            ..query(0xFFF, 1)
         };
         assert_eq!(both(&last, u64::MAX, &all), [Ok(page); 2]);
         assert_eq!(both(&last, u64::MAX - 1, &all), [Err(5); 2]);
-        let less = Wish { size: 0xFFE, ..all };
+        let less = Query { size: 0xFFE, ..all };
         assert_eq!(both(&last, u64::MAX - 1, &less), [Ok(page); 2]);
     }
 }
@@ -1472,17 +1490,17 @@ fn run_end_and_the_window() {
         (u64::MAX, 0x1FFF0),
     ] {
         let wanted = [Ok((0x10000, 0x20000)), Ok((highest, 0x20000))];
-        let named = Wish {
+        let named = Query {
             end,
-            ..wish(0x10, 1)
+            ..query(0x10, 1)
         };
         assert_eq!(both_runs(&m(), u64::MAX, &named), wanted);
-        assert_eq!(both_runs(&m(), end, &wish(0x10, 1)), wanted);
+        assert_eq!(both_runs(&m(), end, &query(0x10, 1)), wanted);
         // Of both the smaller makes the window, and neither cuts the run.
         for other in [0x20000, 0x20001, u64::MAX] {
             if other >= end {
                 assert_eq!(both_runs(&m(), other, &named), wanted);
-                let named = Wish {
+                let named = Query {
                     end: other,
                     ..named
                 };
@@ -1491,10 +1509,10 @@ fn run_end_and_the_window() {
         }
     }
     // A start inside the run; a window that is exactly the size.
-    let inside = Wish {
+    let inside = Query {
         start: 0x12345,
         end: 0x12346,
-        ..wish(1, 1)
+        ..query(1, 1)
     };
     assert_eq!(
         both_runs(&m(), u64::MAX, &inside),
@@ -1508,10 +1526,10 @@ fn run_end_at_what_is_taken() {
     // one behind it with the memory.
     let block = case_4_tables();
     let with = |start, end| {
-        let named = Wish {
+        let named = Query {
             start,
             end,
-            ..wish(0x800, 0x800)
+            ..query(0x800, 0x800)
         };
         both_runs(&block, u64::MAX, &named)
     };
@@ -1529,7 +1547,7 @@ fn run_end_at_what_is_taken() {
     assert_eq!(model::reserve(&mut block, 0x20000, 0x1000), 0);
     assert_eq!(model::reserve(&mut block, 0xF000, 0x1000), 0);
     assert_eq!(
-        both_runs(&block, u64::MAX, &wish(0x10000, 1)),
+        both_runs(&block, u64::MAX, &query(0x10000, 1)),
         [Ok((0x10000, 0x20000)); 2]
     );
 }
@@ -1539,15 +1557,15 @@ fn run_end_at_tag_borders() {
     // Node 0, node 1, no-map of node 1, node 1, each 0x1000 addresses.
     let mut block = memory(&[(0x10000, 0x11000)]);
     assert_eq!(model::add(&mut block, 0x11000, 0x3000, 0, 1), 0);
-    assert_eq!(model::mark(&mut block, 0x12000, 0x1000), 0);
+    assert_eq!(model::mark(&mut block, 0x12000, 0x1000, NO_MAP), 0);
     for (start, run_end) in [(0x10000, 0x11000), (0x11000, 0x12000), (0x13000, 0x14000)] {
         for end in [run_end - 0x800, run_end, run_end + 1] {
             for node in [ANY_NODE, u32::from(start > 0x10000)] {
-                let ask = Wish {
+                let ask = Query {
                     start,
                     end,
                     node,
-                    ..wish(0x800, 0x800)
+                    ..query(0x800, 0x800)
                 };
                 let highest = if end < run_end { start } else { start + 0x800 };
                 assert_eq!(
@@ -1558,10 +1576,10 @@ fn run_end_at_tag_borders() {
         }
     }
     // Unmarked, the last two runs are one.
-    assert_eq!(model::unmark(&mut block, 0x12000, 0x1000), 0);
-    let node_1 = Wish {
+    assert_eq!(model::unmark(&mut block, 0x12000, 0x1000, NO_MAP), 0);
+    let node_1 = Query {
         node: 1,
-        ..wish(0x1000, 0x1000)
+        ..query(0x1000, 0x1000)
     };
     assert_eq!(
         both_runs(&block, u64::MAX, &node_1),
@@ -1575,19 +1593,19 @@ fn run_end_at_the_top() {
     let block = memory(&[(page, u64::MAX)]);
     for size in [1, 0xFFE, 0xFFF] {
         assert_eq!(
-            both_runs(&block, u64::MAX, &wish(size, 1)),
+            both_runs(&block, u64::MAX, &query(size, 1)),
             [Ok((page, u64::MAX)), Ok((u64::MAX - size, u64::MAX))]
         );
     }
     assert_eq!(
-        both_runs(&block, u64::MAX - 1, &wish(0xFFE, 1)),
+        both_runs(&block, u64::MAX - 1, &query(0xFFE, 1)),
         [Ok((page, u64::MAX)); 2]
     );
 }
 
 #[test]
 fn run_as_it_was_before_the_call() {
-    let page = wish(0x1000, 0x1000);
+    let page = query(0x1000, 0x1000);
     // Bottom-up the run keeps its end, up to the allocation that takes the last of it.
     let mut block = turned(m(), BOTTOM_UP);
     for i in 0..16 {
@@ -1606,7 +1624,7 @@ fn run_as_it_was_before_the_call() {
     // From the middle: the run before the call, which the call cuts in two.
     for direction in [TOP_DOWN, BOTTOM_UP] {
         let mut block = turned(m(), direction);
-        let middle = Wish {
+        let middle = Query {
             start: 0x18000,
             end: 0x19000,
             ..page
@@ -1633,10 +1651,10 @@ fn next_free_goes_on_from_the_run_end() {
         for direction in [TOP_DOWN, BOTTOM_UP] {
             for size in [0x10, to - from] {
                 let mut block = turned(start.clone(), direction);
-                let ask = Wish {
+                let ask = Query {
                     start: from,
                     end: from + size,
-                    ..wish(size, 1)
+                    ..query(size, 1)
                 };
                 let (a, end) = allocate(&mut block, &ask).unwrap();
                 assert_eq!((a, end), (from, to));
@@ -1645,5 +1663,471 @@ fn next_free_goes_on_from_the_run_end() {
                 assert_eq!(next_free(&start, end, ANY_NODE), next);
             }
         }
+    }
+}
+
+// Request E6: hotplug and mirror.
+
+/// Words that name no flag: none, sums of flags, and what is above them all.
+const NO_ONE_FLAG: [u32; 9] = [0, 3, 5, 6, 7, 8, 9, 1 << 31, u32::MAX];
+
+/// Memory of each flags 0 to 7 in turn, each so long, touching.
+const PART: u64 = 0x1000;
+
+fn all_flags() -> Vec<u8> {
+    let mut block = fresh();
+    for flags in 0..8 {
+        let base = 0x10000 + u64::from(flags) * PART;
+        assert_eq!(model::add(&mut block, base, PART, flags, 0), 0);
+    }
+    block
+}
+
+type Mark = fn(&mut [u8], u64, u64, u32) -> u32;
+const MARKS: [Mark; 2] = [model::mark, model::unmark];
+
+#[test]
+fn flags_of_request_e6() {
+    assert_eq!((HOTPLUG, MIRROR, NO_MAP, FLAGS), (1, 2, 4, 7));
+    assert_eq!((WISH_HOTPLUG, WISH_MIRROR, WISH_BOTH), (1, 2, 3));
+    assert_eq!(EDITION_1_FLAGS, [0, 4]);
+}
+
+#[test]
+fn flags_0_to_7_are_added() {
+    for node in [0, 63, 64, u32::MAX] {
+        for flags in (0..16).chain([64, 256, 1 << 16, 1 << 31, u32::MAX]) {
+            let number = if flags <= 7 && node <= 63 { 0 } else { 2 };
+            for size in [0, 1, 0x1000, u64::MAX] {
+                let mut block = fresh();
+                let said = model::add(&mut block, 0x1000, size, flags, node);
+                assert_eq!(said, number, "flags {flags:#x} node {node:#x}");
+                let wanted: &[_] = match (number, size) {
+                    (2, _) | (_, 0) => &[],
+                    _ => &[(0x1000, size.min(u64::MAX - 0x1000), flags, node)],
+                };
+                assert_eq!(records(&block, &MEMORY), wanted);
+            }
+        }
+    }
+    // 1 comes before 2, and 2 before 6.
+    assert_eq!(model::add(&mut [0; 7], 0, 1, 8, 0), 1);
+    assert_eq!(model::add(&mut comb(), 0x200_0000, 1, 8, 0), 2);
+    assert_eq!(model::add(&mut comb(), 0x200_0000, 1, 7, 0), 6);
+    // Addresses already there keep theirs.
+    let mut block = all_flags();
+    assert_eq!(model::add(&mut block, 0, 0x20000, 7, 63), 0);
+    let list = records(&block, &MEMORY);
+    assert_eq!(list.len(), 10);
+    for flags in 0..8 {
+        let base = 0x10000 + u64::from(flags) * PART;
+        assert_eq!(list[1 + flags as usize], (base, PART, flags, 0));
+    }
+}
+
+#[test]
+fn flags_of_a_good_block() {
+    for flags in (0..32).chain([1 << 8, 1 << 16, 1 << 31, u32::MAX - 7, u32::MAX]) {
+        let block = raw(&[(0x1000, 0x1000, flags, 63)], &[]);
+        let good = flags <= 7;
+        assert_eq!(model::Board::read(&block).is_some(), good, "{flags:#x}");
+        if !good {
+            assert_eq!(all_commands(&block), [1; 12]);
+        }
+        // In the taken table any flag is one too many.
+        let block = raw(&[], &[(0x1000, 0x1000, flags, 0)]);
+        assert_eq!(model::Board::read(&block).is_some(), flags == 0);
+    }
+}
+
+#[test]
+fn records_that_differ_in_one_flag_stay_apart() {
+    for one in 0..8 {
+        for two in 0..8 {
+            let pair = raw(&[(0, 10, one, 3), (10, 10, two, 3)], &[]);
+            assert_eq!(model::Board::read(&pair).is_some(), one != two);
+        }
+        // They merge once the flag is cleared, or set on both.
+        for flag in [1, 2, 4] {
+            let (with, without) = (one | flag, one & !flag);
+            let apart = [(0, 10, with, 3), (10, 10, without, 3)];
+            let mut block = raw(&apart, &[]);
+            assert_eq!(model::unmark(&mut block, 0, 10, flag), 0);
+            assert_eq!(records(&block, &MEMORY), [(0, 20, without, 3)]);
+            let mut block = raw(&apart, &[]);
+            assert_eq!(model::mark(&mut block, 0, 20, flag), 0);
+            assert_eq!(records(&block, &MEMORY), [(0, 20, with, 3)]);
+            // Cut in two, and made one again.
+            assert_eq!(model::unmark(&mut block, 10, 10, flag), 0);
+            assert_eq!(records(&block, &MEMORY), apart);
+            assert_eq!(model::mark(&mut block, 5, 15, flag), 0);
+            assert_eq!(records(&block, &MEMORY), [(0, 20, with, 3)]);
+        }
+    }
+}
+
+#[test]
+fn marks_name_one_flag() {
+    let full = all_flags();
+    for mark in MARKS {
+        for flag in NO_ONE_FLAG {
+            for size in [0, 1, u64::MAX] {
+                let mut block = full.clone();
+                assert_eq!(mark(&mut block, 0x10000, size, flag), 2, "flag {flag:#x}");
+                assert_eq!(block, full);
+                // Where there is no memory, and where the range is cut to nothing.
+                assert_eq!(mark(&mut fresh(), 0x10000, size, flag), 2);
+                assert_eq!(mark(&mut block, u64::MAX, size, flag), 2);
+            }
+            // 1 comes first, 6 later.
+            assert_eq!(mark(&mut full[1..].to_vec(), 0, 0, flag), 1);
+            assert_eq!(mark(&mut printed_old(), 0, 1, flag), 1);
+            assert_eq!(mark(&mut comb(), 0x2000, 1, flag), 2);
+        }
+        for flag in [1, 2, 4] {
+            let mut block = full.clone();
+            assert_eq!(mark(&mut block, 0x10800, 0, flag), 0);
+            assert_eq!(mark(&mut block, u64::MAX, 1, flag), 0);
+            assert_eq!(mark(&mut block, 0x40000, 0x1000, flag), 0);
+            assert_eq!(block, full);
+            assert_eq!(mark(&mut [0; 7], 0, 0, flag), 1);
+        }
+    }
+    // A part of a record marked needs room; the whole record does not.
+    for flag in [1, 2, 4] {
+        let mut block = comb();
+        assert_eq!(model::mark(&mut block, 0x2000, 1, flag), 6);
+        assert_eq!(block, comb());
+        assert_eq!(model::mark(&mut block, 0x2000, 0x1000, flag), 0);
+        let marked = block.clone();
+        assert_eq!(model::unmark(&mut block, 0x2800, 1, flag), 6);
+        assert_eq!(block, marked);
+        assert_eq!(model::unmark(&mut block, 0x2000, 0x1000, flag), 0);
+        assert_eq!(block, comb());
+    }
+}
+
+#[test]
+fn marks_keep_the_other_flags() {
+    for flags in 0..8 {
+        for flag in [1, 2, 4] {
+            let start = raw(&[(0x1000, 0x3000, flags, 5)], &[]);
+            for (mark, becomes) in MARKS.into_iter().zip([flags | flag, flags & !flag]) {
+                // The middle third; what is there already changes nothing.
+                let mut block = start.clone();
+                assert_eq!(mark(&mut block, 0x2000, 0x1000, flag), 0);
+                let wanted: &[_] = if becomes == flags {
+                    &[(0x1000, 0x3000, flags, 5)]
+                } else {
+                    &[
+                        (0x1000, 0x1000, flags, 5),
+                        (0x2000, 0x1000, becomes, 5),
+                        (0x3000, 0x1000, flags, 5),
+                    ]
+                };
+                assert_eq!(records(&block, &MEMORY), wanted);
+                assert_eq!(block == start, becomes == flags);
+                assert_eq!(total(&block, &MEMORY), 0x3000);
+                // Over the ends, where there is no memory.
+                let mut block = start.clone();
+                assert_eq!(mark(&mut block, 0, u64::MAX, flag), 0);
+                assert_eq!(records(&block, &MEMORY), [(0x1000, 0x3000, becomes, 5)]);
+            }
+        }
+    }
+    // One range over all flags.
+    for flag in [1, 2, 4] {
+        for (mark, set) in MARKS.into_iter().zip([true, false]) {
+            let mut block = all_flags();
+            assert_eq!(mark(&mut block, 0, u64::MAX, flag), 0);
+            for flags in 0..8 {
+                let wanted = if set { flags | flag } else { flags & !flag };
+                let at = 0x10000 + u64::from(flags) * PART;
+                let there = |r: &&(u64, u64, u32, u32)| r.0 <= at && at < r.0 + r.1;
+                let list = records(&block, &MEMORY);
+                assert_eq!(list.iter().find(there).unwrap().2, wanted);
+            }
+            assert_eq!(total(&block, &MEMORY), 8 * PART);
+        }
+    }
+}
+
+#[test]
+fn wishes_0_to_3() {
+    let wrong = [
+        4,
+        5,
+        7,
+        8,
+        16,
+        256,
+        1 << 16,
+        1 << 31,
+        u32::MAX - 1,
+        u32::MAX,
+    ];
+    for wish in (0..4).chain(wrong) {
+        let number = if wish <= 3 { 5 } else { 2 };
+        let asked = Query {
+            wish,
+            ..query(1, 1)
+        };
+        // No memory, so that a wish in order gets 5.
+        assert_eq!(find(&fresh(), &asked), Err(number), "wish {wish:#x}");
+        assert_eq!(allocate(&mut fresh(), &asked), Err(number));
+        let next = next_free_of(&fresh(), 0, ANY_NODE, wish);
+        assert_eq!(next, Err(number));
+    }
+    for wish in wrong {
+        // 8 and 1 come first; alignment and size, which are wrong too, later.
+        let asked = Query {
+            wish,
+            ..query(0, 3)
+        };
+        let old = printed_old();
+        assert_eq!(model::find(&m(), &asked, &mut [1; 17]), 8);
+        assert_eq!(model::allocate(&mut m(), &asked, &mut [1; 15]), 8);
+        assert_eq!(model::next_free(&old, 0, 64, wish, &mut [1; 15]), 8);
+        assert_eq!(find(&old, &asked), Err(1));
+        assert_eq!(allocate(&mut old.clone(), &asked), Err(1));
+        assert_eq!(next_free_of(&old, 0, 64, wish), Err(1));
+        for node in [0, 63, 64, ANY_NODE] {
+            let asked = Query { node, ..asked };
+            assert_eq!(find(&m(), &asked), Err(2));
+            assert_eq!(allocate(&mut m(), &asked), Err(2));
+            assert_eq!(next_free_of(&m(), 0, node, wish), Err(2));
+            for (size, alignment) in [(1, 3), (0, 1), (1, 1)] {
+                let asked = Query {
+                    size,
+                    alignment,
+                    ..asked
+                };
+                assert_eq!(find(&m(), &asked), Err(2));
+                assert_eq!(allocate(&mut m(), &asked), Err(2));
+            }
+        }
+    }
+    // With a wish in order a bad node is still seen, then alignment, then size.
+    for wish in 0..4 {
+        let asked = Query {
+            wish,
+            node: 64,
+            ..query(0, 3)
+        };
+        assert_eq!(find(&m(), &asked), Err(2));
+        assert_eq!(next_free_of(&m(), 0, 64, wish), Err(2));
+        let asked = Query { node: 0, ..asked };
+        assert_eq!(find(&m(), &asked), Err(3));
+        let asked = Query {
+            alignment: 1,
+            ..asked
+        };
+        assert_eq!(find(&m(), &asked), Err(4));
+    }
+}
+
+/// Which flags each wish grants, as the request has it: without 1 no hotplug memory,
+/// with 2 only mirror memory, and never no-map memory. By wish, then by flags.
+const GRANTED: [[bool; 8]; 4] = [
+    [true, false, true, false, false, false, false, false],
+    [true, true, true, true, false, false, false, false],
+    [false, false, true, false, false, false, false, false],
+    [false, false, true, true, false, false, false, false],
+];
+
+#[test]
+fn every_flags_by_every_wish_one_at_a_time() {
+    for flags in 0..8 {
+        let block = raw(&[(0x10000, 0x1000, flags, 7)], &[]);
+        for wish in 0..4 {
+            let granted = GRANTED[wish as usize][flags as usize];
+            for node in [7, ANY_NODE] {
+                let asked = Query {
+                    wish,
+                    node,
+                    ..query(0x10, 0x10)
+                };
+                let (up, down) = match granted {
+                    true => (Ok((0x10000, 0x11000)), Ok((0x10FF0, 0x11000))),
+                    false => (Err(5), Err(5)),
+                };
+                assert_eq!(both_runs(&block, u64::MAX, &asked), [up, down]);
+                assert_eq!(next_free_of(&block, 0, node, wish), up);
+            }
+            let asked = Query {
+                wish,
+                node: 6,
+                ..query(0x10, 0x10)
+            };
+            assert_eq!(both_runs(&block, u64::MAX, &asked), [Err(5); 2]);
+            assert_eq!(next_free_of(&block, 0, 6, wish), Err(5));
+        }
+    }
+}
+
+#[test]
+fn every_flags_by_every_wish_on_one_board() {
+    // All flags in two orders; the runs a wish grants are those of `GRANTED`, each by
+    // itself even where two of them touch.
+    for order in [[0, 1, 2, 3, 4, 5, 6, 7], [4, 1, 3, 2, 0, 7, 6, 5]] {
+        let mut block = fresh();
+        let base = |i: usize| 0x10000 + i as u64 * PART;
+        for (i, &flags) in order.iter().enumerate() {
+            assert_eq!(model::add(&mut block, base(i), PART, flags, 0), 0);
+        }
+        for (wish, granted) in GRANTED.into_iter().enumerate() {
+            let runs: Vec<(u64, u64)> = (0..8)
+                .filter(|&i| granted[order[i] as usize])
+                .map(|i| (base(i), base(i + 1)))
+                .collect();
+            let wish = wish as u32;
+            let asked = |size| Query {
+                wish,
+                ..query(size, 1)
+            };
+            let first = runs[0];
+            let last = *runs.last().unwrap();
+            for size in [1, 0x10, PART] {
+                assert_eq!(
+                    both_runs(&block, u64::MAX, &asked(size)),
+                    [Ok(first), Ok((last.1 - size, last.1))]
+                );
+            }
+            // No run is longer, whatever touches it.
+            assert_eq!(both_runs(&block, u64::MAX, &asked(PART + 1)), [Err(5); 2]);
+            // Next free from every edge and beside it, by a count over the runs.
+            for at in (0..=8).flat_map(|i| [base(i) - 1, base(i), base(i) + 1]) {
+                let wanted = runs
+                    .iter()
+                    .find(|run| at < run.1)
+                    .map(|run| (run.0.max(at), run.1))
+                    .ok_or(5);
+                assert_eq!(next_free_of(&block, at, ANY_NODE, wish), wanted);
+            }
+            // Allocations take the runs one after the other, in either direction.
+            for direction in [BOTTOM_UP, TOP_DOWN] {
+                let mut block = turned(block.clone(), direction);
+                let mut left = runs.clone();
+                if direction == TOP_DOWN {
+                    left.reverse();
+                }
+                for run in left {
+                    assert_eq!(allocate(&mut block, &asked(PART)), Ok(run));
+                }
+                assert_eq!(allocate(&mut block, &asked(1)), Err(5));
+                assert_eq!(next_free_of(&block, 0, ANY_NODE, wish), Err(5));
+                assert_eq!(total(&block, &TAKEN), runs.len() as u64 * PART);
+            }
+            // Windows around each part: it is given exactly when it is granted.
+            for (i, &flags) in order.iter().enumerate() {
+                let window = Query {
+                    start: base(i),
+                    end: base(i + 1),
+                    ..asked(PART)
+                };
+                let wanted = match granted[flags as usize] {
+                    true => Ok((base(i), base(i + 1))),
+                    false => Err(5),
+                };
+                assert_eq!(both_runs(&block, u64::MAX, &window), [wanted; 2]);
+            }
+        }
+    }
+}
+
+#[test]
+fn a_run_ends_where_the_tag_changes_whatever_the_wish() {
+    // Plain, hotplug, both, mirror: wish 1 grants all four, and joins none.
+    let mut block = fresh();
+    for (i, flags) in (0..).zip([0, 1, 3, 2]) {
+        assert_eq!(
+            model::add(&mut block, 0x10000 + i * PART, PART, flags, 0),
+            0
+        );
+    }
+    for (wish, lowest, highest) in [
+        (0, 0x10000, 0x13000),
+        (1, 0x10000, 0x13000),
+        (2, 0x13000, 0x13000),
+        (3, 0x12000, 0x13000),
+    ] {
+        let asked = Query {
+            wish,
+            ..query(PART, 1)
+        };
+        assert_eq!(
+            both_runs(&block, u64::MAX, &asked),
+            [Ok((lowest, lowest + PART)), Ok((highest, highest + PART))]
+        );
+        let more = Query {
+            size: PART + 1,
+            ..asked
+        };
+        assert_eq!(both_runs(&block, u64::MAX, &more), [Err(5); 2]);
+    }
+    // Of one tag again, they are one run.
+    assert_eq!(model::unmark(&mut block, 0, u64::MAX, HOTPLUG), 0);
+    assert_eq!(model::unmark(&mut block, 0, u64::MAX, MIRROR), 0);
+    let all = query(4 * PART, 1);
+    assert_eq!(
+        both_runs(&block, u64::MAX, &all),
+        [Ok((0x10000, 0x14000)); 2]
+    );
+}
+
+#[test]
+fn memory_marked_later_is_no_longer_given() {
+    let asked = |wish| Query {
+        wish,
+        ..query(0x1000, 0x1000)
+    };
+    let mut block = m();
+    assert_eq!(find(&block, &asked(2)), Err(5));
+    assert_eq!(model::mark(&mut block, 0x18000, 0x8000, HOTPLUG), 0);
+    assert_eq!(find(&block, &asked(0)), Ok((0x17000, 0x18000)));
+    assert_eq!(find(&block, &asked(1)), Ok((0x1F000, 0x20000)));
+    assert_eq!(model::mark(&mut block, 0x1C000, 0x8000, MIRROR), 0);
+    assert_eq!(find(&block, &asked(2)), Err(5));
+    assert_eq!(find(&block, &asked(3)), Ok((0x1F000, 0x20000)));
+    assert_eq!(model::unmark(&mut block, 0x1E000, 0x1000, HOTPLUG), 0);
+    assert_eq!(find(&block, &asked(2)), Ok((0x1E000, 0x1F000)));
+    assert_eq!(model::mark(&mut block, 0x1F000, 0x1000, NO_MAP), 0);
+    assert_eq!(find(&block, &asked(3)), Ok((0x1E000, 0x1F000)));
+    assert_eq!(allocate(&mut block, &asked(2)), Ok((0x1E000, 0x1F000)));
+    assert_eq!(allocate(&mut block, &asked(3)), Ok((0x1D000, 0x1E000)));
+    assert_eq!(allocate(&mut block, &asked(2)), Err(5));
+}
+
+#[test]
+fn trim_and_intake_keep_flags() {
+    for flags in 0..8 {
+        let start = raw(&[(0x1800, 0x3000, flags, 9)], &[]);
+        let mut block = start.clone();
+        assert_eq!(model::trim(&mut block, 0x1000), 0);
+        assert_eq!(records(&block, &MEMORY), [(0x2000, 0x2000, flags, 9)]);
+        let mut block = start.clone();
+        assert_eq!(intake_of(&mut block, &[(0x4000, 0x2000, 1)]), 0);
+        assert_eq!(
+            records(&block, &MEMORY),
+            [(0x2000, 0x2000, flags, 9), (0x5000, 0x1000, 0, 0)]
+        );
+    }
+}
+
+#[test]
+fn convert_takes_no_flag_of_request_e6() {
+    for flags in 0..32 {
+        let new = raw(&[(0x1000, 0x1000, flags, 1)], &[(0x1000, 1, 0, 0)]);
+        let mut block = any_bytes();
+        let by_document_01 = flags == 0 || flags == 4;
+        let number = convert(&to_old(&new), &mut block);
+        assert_eq!(number, u32::from(!by_document_01), "flags {flags}");
+        if by_document_01 {
+            assert_eq!(block, new);
+        }
+        // The flags stand in any record, not in the first alone.
+        let list = [(0, 1, 0, 0), (8, 1, 4, 0), (16, 1, flags, 0)];
+        let number = convert(&to_old(&raw(&list, &[])), &mut any_bytes());
+        assert_eq!(number, u32::from(!by_document_01));
     }
 }

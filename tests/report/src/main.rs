@@ -6,7 +6,7 @@
 //! 0x; `raw` and hexadecimal bytes for any others; `#` begins a comment.
 //! `report --text FILE` writes a report's entries as such text.
 
-use model::layout::{BLOCK_LEN, NO_MAP, REPORT_ENTRY_LEN};
+use model::layout::{BLOCK_LEN, REPORT_ENTRY_LEN};
 use model::Board;
 use std::io::Write;
 use std::process::ExitCode;
@@ -47,8 +47,8 @@ fn printed(report: &[u8]) -> Vec<u8> {
     let mut lines = vec![number.to_string()];
     for (lo, hi, tag) in board.memory.stretches() {
         if let Some(tag) = tag {
-            let flags = if tag.no_map { NO_MAP } else { 0 };
-            lines.push(format!("{lo} {} {flags} {}", hi - lo, tag.node));
+            let (flags, node) = tag.words();
+            lines.push(format!("{lo} {} {flags} {node}", hi - lo));
         }
     }
     for (lo, hi, taken) in board.taken.stretches() {

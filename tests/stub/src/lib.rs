@@ -27,6 +27,9 @@ const OLD: Edition = Edition {
 };
 const OFFSETS: [usize; 2] = [80, 3152];
 const ANY: u32 = u32::MAX;
+const HOTPLUG: u32 = 1;
+const MIRROR: u32 = 2;
+const NO_MAP: u32 = 4;
 const ENTRY_LEN: usize = 20;
 const ENTRIES: usize = 128;
 const PAGE: u64 = 4096;
@@ -136,8 +139,11 @@ fn parse_table(b: &[u8], table: usize, edition: &Edition) -> Option<Vec<Rec>> {
         // mutant 3: taken records may have a tag
         let legal = match table {
             // mutant 71: convert takes an old block with flags 1 to 7
-            0 if mutant(71) && edition.number == OLD.number => flags < 8 && node < 64,
-            0 => (flags == 0 || flags == 4) && node < 64,
+            0 if !mutant(71) && edition.number == OLD.number => {
+                (flags == 0 || flags == NO_MAP) && node < 64
+            }
+            // mutant 95: flags 8 are legal in a block
+            0 => (flags < 8 || mutant(95) && flags == 8) && node < 64,
             _ => mutant(3) || (flags == 0 && node == 0),
         };
         if size == 0 || !legal {
@@ -338,42 +344,79 @@ fn gaps(rec: &Rec, taken: &[Rec]) -> Vec<(u64, u64)> {
     gaps
 }
 
-fn offered(rec: &Rec, node: u32) -> bool {
+/// Whether a wish grants memory of these flags.
+fn granted(flags: u32, wish: u32) -> bool {
+    // mutant 96: a wish of 3 does not allow hotplug memory
+    // mutant 97: a wish of 1 is passed over
+    // mutant 98: a wish of 2 allows hotplug memory too
+    let allowed = match wish {
+        _ if mutant(96) => wish == 1,
+        _ if mutant(97) => wish == 3,
+        _ if mutant(98) => wish > 0,
+        _ => wish & 1 == 1,
+    };
+    // mutant 99: a wish of 2 gives memory without mirror
+    let demanded = wish & 2 == 2 && !mutant(99);
     // mutant 12: no-map memory is offered
+    (flags & NO_MAP == 0 || mutant(12))
+        && (allowed || flags & HOTPLUG == 0)
+        && (!demanded || flags & MIRROR == MIRROR)
+}
+
+fn offered(rec: &Rec, node: u32, wish: u32) -> bool {
     // mutant 13: any node means node 0
     let any = node == ANY && (!mutant(13) || rec.node == 0);
-    (rec.flags == 0 || mutant(12)) && (any || rec.node == node)
+    granted(rec.flags, wish) && (any || rec.node == node)
 }
 
 /// The records a search walks over.
-fn walked(memory: &[Rec]) -> Vec<Rec> {
+fn walked(memory: &[Rec], wish: u32) -> Vec<Rec> {
     let mut list: Vec<Rec> = Vec::new();
     for rec in memory {
         match list.last_mut() {
             // mutant 14: a run goes on across two tags
             Some(last) if mutant(14) && last.end == rec.base => last.end = rec.end,
+            // mutant 101: a run goes on across flags that the wish grants alike
+            Some(last)
+                if mutant(101)
+                    && last.end == rec.base
+                    && last.node == rec.node
+                    && granted(last.flags, wish)
+                    && granted(rec.flags, wish) =>
+            {
+                last.end = rec.end;
+            }
             _ => list.push(*rec),
         }
     }
     list
 }
 
-struct Ask {
+/// Whether the node and the wish of a search may be asked for.
+fn may_ask(node: u32, wish: u32) -> bool {
+    // mutant 102: of a wish only the two low bits are looked at
+    // mutant 103: the wish is checked after the alignment
+    let wish_known = wish <= 3 || mutant(102) || mutant(103);
+    (node <= 63 || node == ANY) && wish_known
+}
+
+struct Query {
     size: u64,
     alignment: u64,
     start: u64,
     end: u64,
     node: u32,
+    wish: u32,
     /// What is found is to be reserved.
     takes: bool,
 }
 
 /// The address that find gives, and the end of the gap that holds it.
-fn search(block: &Block, ask: &Ask) -> Option<(u64, u64)> {
+fn search(block: &Block, query: &Query) -> Option<(u64, u64)> {
     // mutant 15: start is not raised to 4096
     let lowest = if mutant(15) { 0 } else { 4096 };
-    let start = ask.start.max(lowest);
-    let mut end = match ask.end {
+    let start = query.start.max(lowest);
+    let mut end = match query.end {
         0 => block.limit,
         named => named.min(block.limit),
     };
@@ -383,39 +426,39 @@ fn search(block: &Block, ask: &Ask) -> Option<(u64, u64)> {
     // mutant 62: a limit of 0 cuts no named end
     // mutant 63: a limit of 1 to 4095 cuts no named end
     let as_given = mutant(16)
-        || mutant(60) && ask.takes
+        || mutant(60) && query.takes
         || mutant(61) && block.limit < start
         || mutant(62) && block.limit == 0
         || mutant(63) && (1..4096).contains(&block.limit);
     // mutant 64: a named end passes the limit by one address
-    let past_by_one = mutant(64) && block.limit < ask.end;
+    let past_by_one = mutant(64) && block.limit < query.end;
     // mutant 65: an end of 0 is cut like any other
     // mutant 66: a named end below the limit is passed over
-    let as_limit = mutant(66) && ask.end < block.limit;
-    if ask.end != 0 && as_given {
-        end = ask.end;
+    let as_limit = mutant(66) && query.end < block.limit;
+    if query.end != 0 && as_given {
+        end = query.end;
     } else if past_by_one {
         end = block.limit + 1;
     } else if mutant(65) {
-        end = ask.end.min(block.limit);
+        end = query.end.min(block.limit);
     } else if as_limit {
         end = block.limit;
     }
     // mutant 17: the limit of the call before is used
     static LAST: AtomicU64 = AtomicU64::new(u64::MAX);
     let last = LAST.swap(block.limit, Ordering::Relaxed);
-    if mutant(17) && ask.end == 0 {
+    if mutant(17) && query.end == 0 {
         end = last;
     }
     let end = end.max(start);
     // mutant 18: the direction is taken the wrong way round
     let bottom_up = (block.direction == 1) != mutant(18);
-    let mut memory = walked(&block.memory);
+    let mut memory = walked(&block.memory, query.wish);
     if !bottom_up {
         memory.reverse();
     }
     for rec in &memory {
-        if !offered(rec, ask.node) {
+        if !offered(rec, query.node, query.wish) {
             continue;
         }
         let mut gaps = gaps(rec, &block.taken);
@@ -437,18 +480,18 @@ fn search(block: &Block, ask: &Ask) -> Option<(u64, u64)> {
                 _ => run_end,
             };
             if bottom_up {
-                let Some(a) = round_up(lo, ask.alignment) else {
+                let Some(a) = round_up(lo, query.alignment) else {
                     continue;
                 };
-                if a < hi && hi - a >= ask.size {
+                if a < hi && hi - a >= query.size {
                     return Some((a, run_end));
                 }
             } else {
                 // mutant 19: end minus size without asking which is smaller
-                if hi < ask.size && !mutant(19) {
+                if hi < query.size && !mutant(19) {
                     continue;
                 }
-                let a = hi.wrapping_sub(ask.size) & !(ask.alignment - 1);
+                let a = hi.wrapping_sub(query.size) & !(query.alignment - 1);
                 if a >= lo && lo < hi {
                     return Some((a, run_end));
                 }
@@ -459,26 +502,29 @@ fn search(block: &Block, ask: &Ask) -> Option<(u64, u64)> {
 }
 
 /// The checks of find, in their order, up to the address and its run's end.
-fn look(block: &[u8], ask: &Ask) -> Result<(Block, u64, u64), u32> {
+fn look(block: &[u8], query: &Query) -> Result<(Block, u64, u64), u32> {
     let block = parse(block).ok_or(1u32)?;
-    if ask.node > 63 && ask.node != ANY {
+    if !may_ask(query.node, query.wish) {
         return Err(2);
     }
     // mutant 20: size 0 is seen before a bad alignment
-    if mutant(20) && ask.size == 0 {
+    if mutant(20) && query.size == 0 {
         return Err(4);
     }
-    if !ask.alignment.is_power_of_two() {
+    if !query.alignment.is_power_of_two() {
         return Err(3);
     }
-    if ask.size == 0 {
+    if mutant(103) && query.wish > 3 {
+        return Err(2);
+    }
+    if query.size == 0 {
         return Err(4);
     }
-    let (a, run_end) = search(&block, ask).ok_or(5u32)?;
+    let (a, run_end) = search(&block, query).ok_or(5u32)?;
     // mutant 92: find and allocate answer a + size, not the run's end
     // mutant 93: allocate answers a + size, not the run's end
-    if mutant(92) || mutant(93) && ask.takes {
-        return Ok((block, a, a + ask.size));
+    if mutant(92) || mutant(93) && query.takes {
+        return Ok((block, a, a + query.size));
     }
     Ok((block, a, run_end))
 }
@@ -647,7 +693,9 @@ pub unsafe extern "C" fn memblock_add(
     if mutant(24) && size == 0 {
         return 0;
     }
-    if (flags != 0 && flags != 4) || node > 63 {
+    // mutant 104: flags 8 are legal in add
+    let most = if mutant(104) { 8 } else { 7 };
+    if flags > most || node > 63 {
         return 2;
     }
     let pieces = fill(&tables.memory, base, cut(base, size), flags, node);
@@ -680,21 +728,45 @@ pub unsafe extern "C" fn memblock_remove(block: *mut u8, len: usize, base: u64, 
     change_memory(block, len, base, size, |_| false)
 }
 
-/// # Safety
-/// As above.
-#[no_mangle]
-pub unsafe extern "C" fn memblock_mark(block: *mut u8, len: usize, base: u64, size: u64) -> u32 {
-    // mutant 25: every hundredth mark answers without doing it
-    static MARKS: AtomicU32 = AtomicU32::new(0);
-    if mutant(25) && MARKS.fetch_add(1, Ordering::Relaxed) % 100 == 99 {
-        return if parse(lent(block, len)).is_none() {
-            1
-        } else {
-            0
-        };
+/// Whether a mark may name this.
+fn is_flag(flag: u32) -> bool {
+    // mutant 105: a mark of several flags is done
+    // mutant 106: a mark of no flag is done
+    [HOTPLUG, MIRROR, NO_MAP].contains(&flag)
+        || mutant(105) && (1..=7).contains(&flag)
+        || mutant(106) && flag == 0
+}
+
+/// Sets or clears a flag where there is memory.
+unsafe fn change_flag(
+    block: *mut u8,
+    len: usize,
+    base: u64,
+    size: u64,
+    flag: u32,
+    set: bool,
+) -> u32 {
+    if parse(lent(block, len)).is_none() {
+        return 1;
     }
+    // mutant 107: a size of 0 hides a wrong flag
+    if mutant(107) && size == 0 {
+        return 0;
+    }
+    if !is_flag(flag) {
+        return 2;
+    }
+    // mutant 108: mark and unmark always mean no-map
+    let flag = if mutant(108) { NO_MAP } else { flag };
     change_memory(block, len, base, size, |rec| {
-        rec.flags = 4;
+        // mutant 109: mark drops the other flags
+        // mutant 110: unmark clears all flags
+        rec.flags = match set {
+            true if mutant(109) => flag,
+            true => rec.flags | flag,
+            false if mutant(110) => 0,
+            false => rec.flags & !flag,
+        };
         true
     })
 }
@@ -702,11 +774,36 @@ pub unsafe extern "C" fn memblock_mark(block: *mut u8, len: usize, base: u64, si
 /// # Safety
 /// As above.
 #[no_mangle]
-pub unsafe extern "C" fn memblock_unmark(block: *mut u8, len: usize, base: u64, size: u64) -> u32 {
-    change_memory(block, len, base, size, |rec| {
-        rec.flags = 0;
-        true
-    })
+pub unsafe extern "C" fn memblock_mark(
+    block: *mut u8,
+    len: usize,
+    base: u64,
+    size: u64,
+    flag: u32,
+) -> u32 {
+    // mutant 25: every hundredth mark answers without doing it
+    static MARKS: AtomicU32 = AtomicU32::new(0);
+    if mutant(25) && MARKS.fetch_add(1, Ordering::Relaxed) % 100 == 99 {
+        return match parse(lent(block, len)) {
+            None => 1,
+            Some(_) if !is_flag(flag) => 2,
+            Some(_) => 0,
+        };
+    }
+    change_flag(block, len, base, size, flag, true)
+}
+
+/// # Safety
+/// As above.
+#[no_mangle]
+pub unsafe extern "C" fn memblock_unmark(
+    block: *mut u8,
+    len: usize,
+    base: u64,
+    size: u64,
+    flag: u32,
+) -> u32 {
+    change_flag(block, len, base, size, flag, false)
 }
 
 /// # Safety
@@ -754,6 +851,7 @@ pub unsafe extern "C" fn memblock_next_free(
     len: usize,
     from: u64,
     node: u32,
+    wish: u32,
     slip: *mut u8,
     slip_len: usize,
 ) -> u32 {
@@ -771,15 +869,20 @@ pub unsafe extern "C" fn memblock_next_free(
     let Some(tables) = parse(b).or(old) else {
         return tell(slip, Err(1));
     };
-    if node > 63 && node != ANY {
+    if !may_ask(node, wish) || mutant(103) && wish > 3 {
         return tell(slip, Err(2));
     }
-    tell(slip, next_run(&tables, from, node).ok_or(5))
+    tell(slip, next_run(&tables, from, node, wish).ok_or(5))
 }
 
 /// The lowest free address at or above one, and the end of its gap.
-fn next_run(tables: &Block, from: u64, node: u32) -> Option<(u64, u64)> {
-    for rec in walked(&tables.memory).iter().filter(|r| offered(r, node)) {
+fn next_run(tables: &Block, from: u64, node: u32, wish: u32) -> Option<(u64, u64)> {
+    // mutant 100: next free takes no notice of the wish
+    let wish = if mutant(100) { 1 } else { wish };
+    for rec in &walked(&tables.memory, wish) {
+        if !offered(rec, node, wish) {
+            continue;
+        }
         for (lo, hi) in gaps(rec, &tables.taken) {
             if hi <= from {
                 continue;
@@ -818,21 +921,23 @@ pub unsafe extern "C" fn memblock_find(
     start: u64,
     end: u64,
     node: u32,
+    wish: u32,
     slip: *mut u8,
     slip_len: usize,
 ) -> u32 {
     if slip_len != 16 {
         return 8;
     }
-    let ask = Ask {
+    let query = Query {
         size,
         alignment,
         start,
         end,
         node,
+        wish,
         takes: false,
     };
-    let answer = look(lent(block, len), &ask).map(|(_, a, end)| (a, end));
+    let answer = look(lent(block, len), &query).map(|(_, a, end)| (a, end));
     // mutant 30: find writes one byte past the slip
     if mutant(30) && answer.is_ok() {
         slip.add(16).write(0);
@@ -859,23 +964,25 @@ pub unsafe extern "C" fn memblock_allocate(
     start: u64,
     end: u64,
     node: u32,
+    wish: u32,
     slip: *mut u8,
     slip_len: usize,
 ) -> u32 {
     if slip_len != 16 {
         return 8;
     }
-    let ask = Ask {
+    let query = Query {
         size,
         alignment,
         start,
         end,
         node,
+        wish,
         takes: true,
     };
     let b = lent_mut(block, len);
     let slip = lent_mut(slip, slip_len);
-    let (tables, a, mut end) = match look(b, &ask) {
+    let (tables, a, mut end) = match look(b, &query) {
         Ok(found) => found,
         Err(number) => return tell(slip, Err(number)),
     };
@@ -883,7 +990,7 @@ pub unsafe extern "C" fn memblock_allocate(
     let number = store(b, 1, &pieces);
     // mutant 94: allocate looks for the run's end after the call
     if mutant(94) && number == 0 {
-        let after = parse(b).and_then(|tables| next_run(&tables, a, ANY));
+        let after = parse(b).and_then(|tables| next_run(&tables, a, ANY, wish));
         end = after.map_or(a, |run| run.1);
     }
     // mutant 33: allocate shows the address found when it refuses 6

@@ -4,13 +4,11 @@
 //! have written, with its number, its block's sum and its slip, or its report's or
 //! old block's sum, must be the line that stands there; the same for both tables at the end.
 //! Fails at the first difference, at a line it does not know, and when the
-//! transcript does not reach its end or leaves out a function, a number, or part
-//! of the memory map.
+//! transcript does not reach its end or leaves out a function, a number, a flag, a
+//! wish, or part of the memory map.
 
-use model::layout::{
-    BLOCK_LEN, EDITION_1, REPORT_ENTRIES, REPORT_ENTRY_LEN, SLIP_LEN, TAKEN, USABLE,
-};
-use model::{Board, Wish};
+use model::layout::*;
+use model::{Board, Query};
 use std::collections::{BTreeMap, BTreeSet};
 use std::fmt::Write;
 use std::process::ExitCode;
@@ -41,6 +39,11 @@ const FUNCTIONS: [&str; 14] = [
     "memblock_convert",
 ];
 const NUMBERS: [u32; 10] = [0, 1, 2, 3, 4, 5, 6, 7, 8, 10];
+/// The functions that take a flag or a wish as their last number, and each of these.
+const MARKS: [&str; 2] = ["memblock_mark", "memblock_unmark"];
+const EACH_FLAG: [u32; 3] = [HOTPLUG, MIRROR, NO_MAP];
+const SEARCHES: [&str; 3] = ["memblock_next_free", "memblock_find", "memblock_allocate"];
+const EACH_WISH: [u32; 4] = [0, WISH_HOTPLUG, WISH_MIRROR, WISH_BOTH];
 
 /// What is wrong with a line.
 type Wrong = String;
@@ -127,6 +130,8 @@ struct Replay {
     /// such an end.
     run_end: Option<u64>,
     went_on: bool,
+    /// The functions called with each last number, and not refused for it.
+    words: BTreeSet<(String, u64)>,
     tables: BTreeSet<String>,
     ended: bool,
 }
@@ -150,6 +155,7 @@ impl Replay {
             converted: 0,
             run_end: None,
             went_on: false,
+            words: BTreeSet::new(),
             tables: BTreeSet::new(),
             ended: false,
         }
@@ -315,17 +321,21 @@ impl Replay {
                 model::add(block, base, size, narrow(flags)?, narrow(node)?)
             }
             ("memblock_remove", &[base, size], None) => model::remove(block, base, size),
-            ("memblock_mark", &[base, size], None) => model::mark(block, base, size),
-            ("memblock_unmark", &[base, size], None) => model::unmark(block, base, size),
+            ("memblock_mark", &[base, size, flag], None) => {
+                model::mark(block, base, size, narrow(flag)?)
+            }
+            ("memblock_unmark", &[base, size, flag], None) => {
+                model::unmark(block, base, size, narrow(flag)?)
+            }
             ("memblock_reserve", &[base, size], None) => model::reserve(block, base, size),
             ("memblock_free", &[base, size], None) => model::free(block, base, size),
             ("memblock_trim", &[alignment], None) => model::trim(block, alignment),
-            ("memblock_next_free", &[from, node], Some(_)) => {
-                model::next_free(block, from, narrow(node)?, lent)
+            ("memblock_next_free", &[from, node, wish], Some(_)) => {
+                model::next_free(block, from, narrow(node)?, narrow(wish)?, lent)
             }
-            ("memblock_find", numbers, Some(_)) => model::find(block, &wish(numbers)?, lent),
+            ("memblock_find", numbers, Some(_)) => model::find(block, &query(numbers)?, lent),
             ("memblock_allocate", numbers, Some(_)) => {
-                model::allocate(block, &wish(numbers)?, lent)
+                model::allocate(block, &query(numbers)?, lent)
             }
             _ => return Err(format!("unknown call: {function}({arguments})")),
         };
@@ -340,6 +350,9 @@ impl Replay {
         }
         if report_length.is_some() {
             let _ = write!(line, " report {:#x}", sum(&self.report));
+        }
+        if let (0 | 5, Some(&word)) = (number, numbers.last()) {
+            self.words.insert((function.into(), word));
         }
         if number == 0 {
             match (function, &name[..], ranged) {
@@ -405,6 +418,15 @@ impl Replay {
         if !self.went_on {
             return Err("next free did not go on from an allocation's run".into());
         }
+        let flags = MARKS.iter().flat_map(|f| EACH_FLAG.map(|word| (f, word)));
+        let wishes = SEARCHES
+            .iter()
+            .flat_map(|f| EACH_WISH.map(|word| (f, word)));
+        for (function, word) in flags.chain(wishes) {
+            if !self.words.contains(&(function.to_string(), word.into())) {
+                return Err(format!("{function} was never called with {word}"));
+            }
+        }
         if !["block", "mirror"]
             .iter()
             .all(|&name| self.tables.contains(name))
@@ -431,8 +453,8 @@ fn tables(board: &Board) -> Vec<String> {
     let (mut present, mut taken) = (0, 0);
     for (lo, hi, tag) in board.memory.stretches() {
         if let Some(tag) = tag {
-            let flags = if tag.no_map { model::layout::NO_MAP } else { 0 };
-            lines.push(record("memory", lo, hi, flags, tag.node));
+            let (flags, node) = tag.words();
+            lines.push(record("memory", lo, hi, flags, node));
             present += hi - lo;
         }
     }
@@ -458,16 +480,17 @@ fn record(table: &str, lo: u128, hi: u128, flags: u32, node: u32) -> String {
     )
 }
 
-fn wish(numbers: &[u64]) -> Result<Wish, Wrong> {
-    let &[size, alignment, start, end, node] = numbers else {
+fn query(numbers: &[u64]) -> Result<Query, Wrong> {
+    let &[size, alignment, start, end, node, wish] = numbers else {
         return Err("not a search's numbers".into());
     };
-    Ok(Wish {
+    Ok(Query {
         size,
         alignment,
         start,
         end,
         node: narrow(node)?,
+        wish: narrow(wish)?,
     })
 }
 

@@ -5,11 +5,11 @@ use borrow.Author.Needs.{needs}
 use Rattle.regions.proofs.Tag.without_flag.Statement.{statement}
 use Rattle.regions.proofs.Tag.without_flag.Tie as tie
 
-div-if1 : tie.Need-div-if1
-div-if1 c = search needs
+has-requires : tie.Need-has-requires
+has-requires c κs = search needs
 
-sub-t6 : tie.Need-sub-t6
-sub-t6 c = search (flag-le, needs)
+sub-t4 : tie.Need-sub-t4
+sub-t4 c = search (flag-le, needs)
 
 returns : tie.Need-returns
 returns c = (search (flag-cleared, needs), refl)
@@ -18,4 +18,4 @@ returns-2 : tie.Need-returns-2
 returns-2 c = (search (flag-gone, needs), refl)
 
 pub without-flag-spec : {M : Type 1} → statement M
-without-flag-spec = tie.close (tie.spec div-if1 sub-t6 returns returns-2)
+without-flag-spec = tie.close (tie.spec has-requires sub-t4 returns returns-2)

@@ -1,5 +1,5 @@
 -- `search::find::check` meets its contract.
-use Rattle.search.proofs.Answering.{check-bad, check-node, check-power, check-size, check-fine}
+use Rattle.search.proofs.Answering.{check-bad, check-ask, check-power, check-size, check-fine}
 use Rattle.block.proofs.Layouts.{small-current, small-as}
 use borrow.Author.Needs.{needs}
 use Rattle.search.proofs.find.check.Statement.{statement}
@@ -14,11 +14,11 @@ block-good-requires c κs = search (small-as small-current, needs)
 returns : tie.Need-returns
 returns c = search (check-bad, needs)
 
-node-known-requires : tie.Need-node-known-requires
-node-known-requires c κs = search needs
+may-ask-requires : tie.Need-may-ask-requires
+may-ask-requires c κs = search needs
 
 returns-2 : tie.Need-returns-2
-returns-2 c = search (check-node, needs)
+returns-2 c = search (check-ask, needs)
 
 power-of-two-requires : tie.Need-power-of-two-requires
 power-of-two-requires c κs = search needs
@@ -39,7 +39,7 @@ check-spec =
     current-layout-requires
     block-good-requires
     returns
-    node-known-requires
+    may-ask-requires
     returns-2
     power-of-two-requires
     returns-3

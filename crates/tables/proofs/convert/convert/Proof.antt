@@ -1,22 +1,16 @@
 -- `tables::convert::convert` meets its contract.
 use Rattle.regions.proofs.Numbers.{bytes-all}
-use Rattle.block.proofs.Layouts.{small-one, small-current, small-as}
-use Rattle.tables.proofs.Converting.{not-edition-one, convert-length, old-room, old-header, convert-done, is-edition-one, converted}
+use Rattle.block.proofs.Layouts.{small-current, small-as}
+use Rattle.tables.proofs.Converting.{not-good-one, convert-length, old-room, old-header, convert-done}
 use borrow.Author.Needs.{needs}
 use Rattle.tables.proofs.convert.convert.Statement.{statement}
 use Rattle.tables.proofs.convert.convert.Tie as tie
 
-edition-one-layout-requires : tie.Need-edition-one-layout-requires
-edition-one-layout-requires c κs = search needs
-
-current-layout-requires : tie.Need-current-layout-requires
-current-layout-requires c κs = search needs
-
-block-good-requires : tie.Need-block-good-requires
-block-good-requires c κs = search (small-as small-one, small-as small-current, needs)
+good-one-requires : tie.Need-good-one-requires
+good-one-requires c κs = search needs
 
 returns : tie.Need-returns
-returns c = search (not-edition-one, needs)
+returns c = search (not-good-one, needs)
 
 returns-2 : tie.Need-returns-2
 returns-2 c = search (convert-length, needs)
@@ -26,6 +20,9 @@ copy-front-requires c κs = search (old-room, needs)
 
 put-zeros-requires : tie.Need-put-zeros-requires
 put-zeros-requires c κs = search needs
+
+current-layout-requires : tie.Need-current-layout-requires
+current-layout-requires c κs = search needs
 
 get-header-requires : tie.Need-get-header-requires
 get-header-requires c κs = search (old-header, needs)
@@ -38,43 +35,20 @@ same-length c = search needs
 
 returns-3 : tie.Need-returns-3
 returns-3 c =
-    let zeroed = c .before .before .before .before .before .before .before in
-    let judged = zeroed .before .before .before .before .before .before .before .before in
-    let s = judged .before .before .before .before .before in
-    let is = judged .before .before .edition-one-layout .ensures in
-    let q = judged .block-good .ensures in
-    let t = zeroed .before .before .before .before .before .before .before .if1 .left in
-    let n = zeroed .before .before .before .before .before .before .if2 .left in
-    let bs = bytes-all _ (judged .before .before .before .before .shared-slice-known .given) in
-    convert-done _ _ _ is _ q t n _
-    (converted
-    _
-    (is-edition-one (s .args .old .now) (s .args .block .now) _ is _ q t)
-    bs
-    (s .args .block .now)
-    n
-    _
-    (zeroed .before .before .before .before .copy-front .ensures)
-    _
-    (zeroed .put-zeros .ensures)
-    _
-    (c .before .before .before .get-header .ensures)
-    _
-    (judged .before .current-layout .ensures)
-    _
-    (c .before .before .put-header .ensures))
+    let judged = c .before .before .before .before .before .before .before .before .before .before .before .before .before .before .before .before in
+    let bytes = bytes-all _ (judged .before .before .shared-slice-known .given) in
+    search (convert-done (judged .before .before .before .args .old .now) (judged .before .before .before .args .block .now) _ (judged .good-one .ensures) (c .before .before .before .before .before .before .before .before .before .before .before .before .before .before .before .if1 .left) bytes (c .before .before .before .before .before .before .before .before .before .before .before .before .before .before .if2 .left), needs)
 
 pub convert-spec : {M : Type 1} → statement M
 convert-spec =
     tie.close
     (tie.spec
-    edition-one-layout-requires
-    current-layout-requires
-    block-good-requires
+    good-one-requires
     returns
     returns-2
     copy-front-requires
     put-zeros-requires
+    current-layout-requires
     get-header-requires
     put-header-requires
     same-length

@@ -1,5 +1,5 @@
 -- `tables::commands::Verb::change` meets its contract.
-use Rattle.tables.proofs.Verbs.{add-fills, reserve-fills}
+use Rattle.tables.proofs.Verbs.{add-fills, mark-marks, unmark-unmarks, reserve-fills}
 use borrow.Author.Needs.{needs}
 use Rattle.tables.proofs.commands.Verb.change.Statement.{statement}
 use Rattle.tables.proofs.commands.Verb.change.Tie as tie
@@ -10,17 +10,17 @@ enum-known-self c = search needs
 enum-told : tie.Need-enum-told
 enum-told c = search needs
 
+enum-known-self-2 : tie.Need-enum-known-self-2
+enum-known-self-2 c = search needs
+
+enum-known-self-3 : tie.Need-enum-known-self-3
+enum-known-self-3 c = search needs
+
 enum-told-2 : tie.Need-enum-told-2
 enum-told-2 c = search needs
 
 enum-told-3 : tie.Need-enum-told-3
 enum-told-3 c = search needs
-
-enum-told-4 : tie.Need-enum-told-4
-enum-told-4 c = search needs
-
-enum-told-5 : tie.Need-enum-told-5
-enum-told-5 c = search needs
 
 returns : tie.Need-returns
 returns c = search (add-fills, needs)
@@ -29,10 +29,10 @@ returns-2 : tie.Need-returns-2
 returns-2 c = search needs
 
 returns-3 : tie.Need-returns-3
-returns-3 c = search needs
+returns-3 c = search (mark-marks, needs)
 
 returns-4 : tie.Need-returns-4
-returns-4 c = search needs
+returns-4 c = search (unmark-unmarks, needs)
 
 returns-5 : tie.Need-returns-5
 returns-5 c = search (reserve-fills, needs)
@@ -46,10 +46,10 @@ change-spec =
     (tie.spec
     enum-known-self
     enum-told
+    enum-known-self-2
+    enum-known-self-3
     enum-told-2
     enum-told-3
-    enum-told-4
-    enum-told-5
     returns
     returns-2
     returns-3

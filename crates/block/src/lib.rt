@@ -11,7 +11,7 @@ use regions::bytes::put_u32;
 use regions::bytes::put_u64;
 ghost use mathlib.Core.Path.{_≡_};
 ghost use Prim.Native.Nat.{_+_, _*_, _<_, _≤_};
-ghost use lib.ListN.{length, take, drop};
+ghost use lib.ListN.{length, take};
 ghost use lib.Seq.{sets};
 ghost use Rattle.block.specs.Block.{editionOne, current, capacity as capacityOf, offset, entryBytes, entriesBytes, settingsBytes, totalsBytes, headerBytes, readHeader, sameBytes, good};
 ghost use Rattle.block.specs.Checks.{Small, withTotals, tallyOf, withTally};

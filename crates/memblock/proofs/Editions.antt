@@ -10,7 +10,7 @@ use borrow.Author.Tests.{ne-eqb}
 use Rattle.block.specs.Block.{editionOne, current, blockLength, good}
 use Rattle.block.proofs.Blocks.{good-length, bad-length}
 use Rattle.tables.specs.Commands.{commandOutcome, fresh, set, trim}
-use Rattle.tables.specs.Convert.{goodOne, convert}
+use Rattle.convert.specs.Convert.{goodOne, convert}
 use Rattle.intake.specs.E820.{intakeE820}
 use Rattle.search.specs.Answers.{Answer, asking, find, allocate, nextFree}
 use Rattle.memblock.specs.Calls.{Call, toFresh, toSet, toCommand, toTrim, toFind, toNextFree, toAllocate, toIntake, toConvert, answerOf}

@@ -13,9 +13,9 @@ use Rattle.regions.specs.declared.Change.the-variants.{Fill}
 use Rattle.block.specs.Block.{current, capacity, blockLength, contents, good}
 use Rattle.tables.specs.declared.commands.Verb.the-variants.{Reserve}
 use Rattle.tables.specs.Commands.{Outcome, unless, doneWith, store, changeRange, tag, Command, command, table, legalVerb, commandOutcome, fresh, set, trim}
-use Rattle.tables.specs.Convert.{goodOne, convert}
+use Rattle.convert.specs.Convert.{goodOne, convert}
 use Rattle.tables.specs.DemandTwo.{finished}
-use Rattle.tables.proofs.Converting.{convert-sentence}
+use Rattle.convert.proofs.Converting.{convert-sentence}
 use Rattle.tables.proofs.Good.{was-good, command-good, trim-good, set-good, fresh-good}
 use Rattle.intake.specs.Turns.{inTurn, wholly}
 use Rattle.intake.specs.E820.{entries, readable, entrySteps, intakeE820}

@@ -4,7 +4,7 @@ use Prim.Native.Nat.{ℕ}
 use mathlib.Core.List.{List, [], _∷_}
 use Rattle.block.specs.Block.{current}
 use Rattle.tables.specs.Commands.{Outcome, fresh, set, Command, commandOutcome, trim}
-use Rattle.tables.specs.Convert.{convert}
+use Rattle.convert.specs.Convert.{convert}
 use Rattle.intake.specs.E820.{intakeE820}
 use Rattle.runs.specs.declared.Query.{Query}
 use Rattle.search.specs.Answers.{Answer, answer, find, allocate, nextFree}

@@ -168,5 +168,5 @@ pub extern "C" fn memblock_intake_e820(block: &mut [u8], report: &[u8]) -> u32
 pub extern "C" fn memblock_convert(old: &[u8], block: &mut [u8]) -> u32
     ensures { λ r. ⌜ answer r (now (block .exit)) [] ≡ answerOf (toConvert (now (old .entry))) (now (block .entry)) ⌝ }
 {
-    tables::convert::convert(old, block)
+    convert::convert(old, block)
 }

@@ -1,5 +1,4 @@
 -- A table's count and total. Assumes nothing.
-use Prim.Native.Nat.{_-_}
 use mathlib.Core.List.{List}
 use lib.ListN.{length}
 use Rattle.regions.specs.declared.Region.{Region}

@@ -1,6 +1,5 @@
 pub mod BadTag
 pub mod Commanding
-pub mod Converting
 pub mod DemandTwo
 pub mod Front
 pub mod Good

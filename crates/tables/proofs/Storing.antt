@@ -1,6 +1,6 @@
 -- A table's list and its tally, put in the place of the old. Assumes nothing.
 use Prim.Native.Nat.{ℕ, _+_, _*_, _-_, _/_, _≤_}
-use mathlib.Core.Path.{_≡_, refl, sym, ap, ap₂, _∙_}
+use mathlib.Core.Path.{_≡_, sym, ap, ap₂, _∙_}
 use mathlib.Core.Bool.{true}
 use mathlib.Core.List.{List, _++_, append-assoc, append-nil}
 use native.Mathlib.Omega.{arith}
@@ -10,7 +10,6 @@ use Rattle.address.specs.declared.Address.{Address}
 use Rattle.address.specs.declared.CheckedAddress.{CheckedAddress}
 use Rattle.address.specs.declared.CheckedAddress.the-variants.{At, Outside}
 use Rattle.address.specs.declared.Size.{Size}
-use Rattle.address.specs.declared.CheckedSize.{CheckedSize}
 use Rattle.address.specs.Numbers.{address}
 use Rattle.address.proofs.Checked.{address-at, address-outside}
 use Rattle.regions.specs.declared.Kind.{Kind}
@@ -30,7 +29,6 @@ use Rattle.block.proofs.Blocks.{table-length, part-length, room, good-contents,
 use Rattle.block.proofs.Reading.{good-header, good-tables}
 use Rattle.block.proofs.Layouts.{small-current, small-as}
 use Rattle.block.proofs.Headers.{sets-header}
-use Rattle.address.specs.declared.CheckedSize.the-variants as Size
 
 -- ---- a table of a block
 

@@ -1,5 +1,4 @@
 pub mod BadTag
 pub mod Commands
-pub mod Convert
 pub mod DemandTwo
 pub mod Steps

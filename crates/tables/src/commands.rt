@@ -18,7 +18,6 @@ use regions::Tag;
 use regions::one_flag;
 ghost use mathlib.Core.Path.{_≡_};
 ghost use mathlib.Core.Bool.{true};
-ghost use lib.ListN.{length};
 ghost use Rattle.address.specs.Numbers.{powerOfTwo};
 ghost use Rattle.block.specs.Block.{current, good};
 ghost use Rattle.tables.specs.Commands.{outcome, fresh as freshOutcome, set as setOutcome, trim as trimOutcome, table as tableOf, changeOf, legalVerb, command, commandOutcome};

@@ -1,4 +1,3 @@
 // The commands on the tables of a block.
 pub mod commands;
-pub mod convert;
 pub mod range;

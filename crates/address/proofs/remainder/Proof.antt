@@ -1,6 +1,5 @@
 -- `address::remainder` meets its contract.
 use Rattle.address.proofs.Powers.{power-some, power-mask}
-use borrow.Author.Needs.{needs}
 use Rattle.address.proofs.remainder.Statement.{statement}
 use Rattle.address.proofs.remainder.Tie as tie
 

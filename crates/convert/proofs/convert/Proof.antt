@@ -1,10 +1,10 @@
--- `tables::convert::convert` meets its contract.
+-- `convert::convert` meets its contract.
 use Rattle.regions.proofs.Numbers.{bytes-all}
 use Rattle.block.proofs.Layouts.{small-current, small-as}
-use Rattle.tables.proofs.Converting.{not-good-one, convert-length, old-room, old-header, convert-done}
+use Rattle.convert.proofs.Converting.{not-good-one, convert-length, old-room, old-header, convert-done}
 use borrow.Author.Needs.{needs}
-use Rattle.tables.proofs.convert.convert.Statement.{statement}
-use Rattle.tables.proofs.convert.convert.Tie as tie
+use Rattle.convert.proofs.convert.Statement.{statement}
+use Rattle.convert.proofs.convert.Tie as tie
 
 good-one-requires : tie.Need-good-one-requires
 good-one-requires c κs = search needs

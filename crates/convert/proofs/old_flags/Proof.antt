@@ -1,8 +1,8 @@
--- `tables::convert::old_flags` meets its contract.
-use Rattle.tables.proofs.Converting.{flags-none, flags-no-map}
+-- `convert::old_flags` meets its contract.
+use Rattle.convert.proofs.Converting.{flags-none, flags-no-map}
 use borrow.Author.Needs.{needs}
-use Rattle.tables.proofs.convert.old_flags.Statement.{statement}
-use Rattle.tables.proofs.convert.old_flags.Tie as tie
+use Rattle.convert.proofs.old_flags.Statement.{statement}
+use Rattle.convert.proofs.old_flags.Tie as tie
 
 returns : tie.Need-returns
 returns c = search (flags-none, needs)

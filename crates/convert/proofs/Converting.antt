@@ -24,10 +24,10 @@ use Rattle.block.proofs.Blocks.{direction-ok, tables-ok, room, lists-ok, good-c
 use Rattle.block.proofs.Reading.{Spellable, contents-spelled, good-spelled-block, good-spellable, good-header, good-tables}
 use Rattle.block.proofs.Fields.{good-spare}
 use Rattle.block.proofs.Kept.{good-bytes}
 use Rattle.tables.specs.Commands.{outcome, doneWith}
-use Rattle.tables.specs.Convert.{oldFlags, flagsOne, goodOne, convert, Converts, ConvertSentence}
+use Rattle.convert.specs.Convert.{oldFlags, flagsOne, goodOne, convert, Converts, ConvertSentence}
 use Rattle.tables.proofs.Good.{was-good}
 use Rattle.tables.proofs.Printed.{fresh-spellable}
 
 -- ---- good by document 01
 

@@ -1,9 +1,9 @@
--- `tables::convert::good_one` meets its contract.
+-- `convert::good_one` meets its contract.
 use Rattle.block.proofs.Layouts.{small-one, small-as}
-use Rattle.tables.proofs.Converting.{not-edition-one, one-header, one-memory, one-room, one-judged}
+use Rattle.convert.proofs.Converting.{not-edition-one, one-header, one-memory, one-room, one-judged}
 use borrow.Author.Needs.{needs}
-use Rattle.tables.proofs.convert.good_one.Statement.{statement}
-use Rattle.tables.proofs.convert.good_one.Tie as tie
+use Rattle.convert.proofs.good_one.Statement.{statement}
+use Rattle.convert.proofs.good_one.Tie as tie
 
 edition-one-layout-requires : tie.Need-edition-one-layout-requires
 edition-one-layout-requires c κs = search needs

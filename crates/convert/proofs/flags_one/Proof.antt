@@ -1,13 +1,13 @@
--- `tables::convert::flags_one` meets its contract.
+-- `convert::flags_one` meets its contract.
 use Prim.Native.Nat.{_*_, _-_, _≤_}
 use mathlib.Core.Path.{_≡_}
 use lib.ListN.{drop}
 use Rattle.regions.specs.Bytes.{readRegions}
-use Rattle.tables.specs.Convert.{flagsOne}
-use Rattle.tables.proofs.Converting.{flags-start, flags-end, flags-other, flags-next}
+use Rattle.convert.specs.Convert.{flagsOne}
+use Rattle.convert.proofs.Converting.{flags-start, flags-end, flags-other, flags-next}
 use borrow.Author.Needs.{needs}
-use Rattle.tables.proofs.convert.flags_one.Statement.{statement}
-use Rattle.tables.proofs.convert.flags_one.Tie as tie
+use Rattle.convert.proofs.flags_one.Statement.{statement}
+use Rattle.convert.proofs.flags_one.Tie as tie
 
 abbrev Inv-loop : tie.InvT-loop
 Inv-loop t count i₀ i = (i ≤ count) × (flagsOne (readRegions (count - i) (drop (24 * i) t)) ≡ flagsOne (readRegions count t))

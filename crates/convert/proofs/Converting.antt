@@ -50,6 +50,16 @@ good-one old = go (good editionOne old) refl
 good-one-is : (old : List ℕ) → goodOne old ≡ true → good editionOne old ≡ true
 good-one-is old e = both (good editionOne old) (flagsOne (contents editionOne old .memory)) (sym (good-one old) ∙ e) .0
 
+module _ (old : List ℕ) (g : good editionOne old ≡ true) where
+  pub old-header : 80 ≤ length old
+  old-header = omega (arith, good-length editionOne old g)
+
+  pub old-memory : 3152 ≤ length old
+  old-memory = omega (arith, good-length editionOne old g)
+
+  pub old-whole : blockLength editionOne ≤ length old
+  old-whole = omega (arith, good-length editionOne old g)
+
 -- ---- its check, in the code's form
 
 module _ (flags : ℕ) where
@@ -86,14 +96,8 @@ module _ (old : List ℕ) (l : Layout) (is : l ≡ editionOne) (g : Bool) (q : g
       rw (good-one old, k)
 
   module _ (t : not g ≡ false) where
-    edition-one : good editionOne old ≡ true
+    pub edition-one : good editionOne old ≡ true
     edition-one = rw (← is) (sym q ∙ not-false g t)
-
-    pub one-header : 80 ≤ length old
-    one-header = omega (arith, good-length editionOne old edition-one)
-
-    pub one-memory : 3152 ≤ length old
-    one-memory = omega (arith, good-length editionOne old edition-one)
 
     module _ (h : Header) (e : h ≡ readHeader old) where
       pub one-room : 24 * h .memory .count ≤ length (take (3152 - 80) (drop 80 old))
@@ -158,14 +162,8 @@ module _ (old b : List ℕ) (g : Bool) (q : g ≡ goodOne old) where
     was-one : goodOne old ≡ true
     was-one = sym q ∙ not-false g t
 
-    is-edition-one : good editionOne old ≡ true
+    pub is-edition-one : good editionOne old ≡ true
     is-edition-one = good-one-is old was-one
-
-    pub old-room : blockLength editionOne ≤ length old
-    old-room = omega (arith, good-length editionOne old is-edition-one)
-
-    pub old-header : 80 ≤ length old
-    old-header = omega (arith, good-length editionOne old is-edition-one)
 
     pub convert-length : (length b ≡ blockLength current → ⊥) → outcome 1 b ≡ convert old b
     unfolding convert

@@ -99,10 +99,10 @@ every-holds p (suc n) e f l = go (every-holds p n (both (p n) (every p n) e .1) 
     go i false h = let d = eqb-false f n h in i (omega arith)
 
 -- p passes for each of the three flags and each word of 0 to 7: 24 cases, computed
-abbrev Tried : (ℕ → ℕ → Bool) → Type 0
-Tried p = (every (p 1) 8 ≡ true) × ((every (p 2) 8 ≡ true) × (every (p 4) 8 ≡ true))
+abbrev EachCase : (ℕ → ℕ → Bool) → Type 0
+EachCase p = (every (p 1) 8 ≡ true) × ((every (p 2) 8 ≡ true) × (every (p 4) 8 ≡ true))
 
-each-flag : (p : ℕ → ℕ → Bool) → Tried p → (w : ℕ) → oneFlag w ≡ true → (f : ℕ) → leb f 7 ≡ true → p w f ≡ true
+each-flag : (p : ℕ → ℕ → Bool) → EachCase p → (w : ℕ) → oneFlag w ≡ true → (f : ℕ) → leb f 7 ≡ true → p w f ≡ true
 each-flag p x w e f l = go (one-of-three w e)
   where
     below : f < 8
@@ -127,7 +127,7 @@ clear-legal = each-flag (λ w f. leb (clearFlag w f) 7) (refl, (refl, refl))
 abbrev stays : (ℕ → ℕ → ℕ) → ℕ → ℕ → ℕ → Bool
 stays k v w f = eqb v w || cond (has v f) (has v (k w f)) (not (has v (k w f)))
 
-others-stay : (k : ℕ → ℕ → ℕ) → Tried (stays k 1) → Tried (stays k 2) → Tried (stays k 4) → (w : ℕ) → oneFlag w ≡ true → (f : ℕ) → leb f 7 ≡ true
+others-stay : (k : ℕ → ℕ → ℕ) → EachCase (stays k 1) → EachCase (stays k 2) → EachCase (stays k 4) → (w : ℕ) → oneFlag w ≡ true → (f : ℕ) → leb f 7 ≡ true
     → (v : ℕ) → oneFlag v ≡ true → (v ≡ w → ⊥) → has v (k w f) ≡ has v f
 others-stay k x y z w e f l v o n = equal (has v f) (has v (k w f)) (rw (ne-eqb v w n) at (go (one-of-three v o)))
   where

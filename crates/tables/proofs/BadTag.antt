@@ -1,13 +1,13 @@
 -- A command answers 2 exactly when the block is good and what it names is not legal. Assumes nothing.
 use Prim.Native.Nat.{ℕ}
 use mathlib.Core.Path.{_≡_, refl}
-use mathlib.Core.Bool.{Bool, true, false, _&&_, _||_, and-false}
+use mathlib.Core.Bool.{Bool, true, false, _&&_, and-false}
 use mathlib.Core.Logic.{inl, inr}
 use native.Mathlib.Omega.{arith}
-use lib.Dec.{leb, eqb}
+use lib.Dec.{leb}
 use lib.ListN.{length}
-use borrow.Author.Tests.{lt-leb, leb-false, ne-eqb, eqb-false}
-use Rattle.address.proofs.Tests.{zero-not-one}
+use borrow.Author.Tests.{lt-leb, leb-false, ne-eqb}
+use Rattle.address.proofs.Tests.{clash, zero-not-one}
 use Rattle.regions.specs.Lists.{legalTag}
 use Rattle.regions.specs.Changes.{oneFlag}
 use Rattle.block.specs.Block.{capacity, withList, blockBytes, contents, good}
@@ -20,12 +20,7 @@ use Rattle.tables.specs.DemandTwo.{finished}
 -- ---- what is not legal is bad
 
 not-one : (w : ℕ) → oneFlag w ≡ false → NotOneFlag w
-not-one w e = go (eqb w 1) (eqb w 2) refl refl e
-  where
-    go : (x y : Bool) → eqb w 1 ≡ x → eqb w 2 ≡ y → x || (y || eqb w 4) ≡ false → NotOneFlag w
-    go false false p q h = (eqb-false w 1 p, (eqb-false w 2 q, eqb-false w 4 h))
-    go false true p q h = absurd (zero-not-one cc)
-    go true y p q h = absurd (zero-not-one cc)
+not-one w e = (λ h. clash (oneFlag w) (rw h) e, (λ h. clash (oneFlag w) (rw h) e, λ h. clash (oneFlag w) (rw h) e))
 
 not-legal : (v : Verb) → legalVerb v ≡ false → BadTag v
 unfolding legalTag

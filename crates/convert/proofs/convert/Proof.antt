@@ -1,7 +1,7 @@
 -- `convert::convert` meets its contract.
 use Rattle.regions.proofs.Numbers.{bytes-all}
 use Rattle.block.proofs.Layouts.{small-current, small-as}
-use Rattle.convert.proofs.Converting.{not-good-one, convert-length, old-room, old-header, convert-done}
+use Rattle.convert.proofs.Converting.{old-header, old-whole, not-good-one, is-edition-one, convert-length, convert-done}
 use borrow.Author.Needs.{needs}
 use Rattle.convert.proofs.convert.Statement.{statement}
 use Rattle.convert.proofs.convert.Tie as tie
@@ -16,7 +16,7 @@ returns-2 : tie.Need-returns-2
 returns-2 c = search (convert-length, needs)
 
 copy-front-requires : tie.Need-copy-front-requires
-copy-front-requires c κs = search (old-room, needs)
+copy-front-requires c κs = search (old-whole, is-edition-one, needs)
 
 put-zeros-requires : tie.Need-put-zeros-requires
 put-zeros-requires c κs = search needs
@@ -25,7 +25,7 @@ current-layout-requires : tie.Need-current-layout-requires
 current-layout-requires c κs = search needs
 
 get-header-requires : tie.Need-get-header-requires
-get-header-requires c κs = search (old-header, needs)
+get-header-requires c κs = search (old-header, is-edition-one, needs)
 
 put-header-requires : tie.Need-put-header-requires
 put-header-requires c κs = search (small-as small-current, needs)
@@ -35,9 +35,9 @@ same-length c = search needs
 
 returns-3 : tie.Need-returns-3
 returns-3 c =
-    let judged = c .before .before .before .before .before .before .before .before .before .before .before .before .before .before .before .before in
-    let bytes = bytes-all _ (judged .before .before .shared-slice-known .given) in
-    search (convert-done (judged .before .before .before .args .old .now) (judged .before .before .before .args .block .now) _ (judged .good-one .ensures) (c .before .before .before .before .before .before .before .before .before .before .before .before .before .before .before .if1 .left) bytes (c .before .before .before .before .before .before .before .before .before .before .before .before .before .before .if2 .left), needs)
+    let start = c .before .before .before .before .before .before .before .before .before .before .before .before .before .before .before .before .before .before .before in
+    let bytes = bytes-all _ (c .before .before .before .before .before .before .before .before .before .before .before .before .before .before .before .before .before .before .shared-slice-known .given) in
+    search (convert-done (start .args .old .now) (start .args .block .now) _ (c .before .before .before .before .before .before .before .before .before .before .before .before .before .before .before .before .good-one .ensures) (c .before .before .before .before .before .before .before .before .before .before .before .before .before .before .before .if1 .left) bytes, needs)
 
 pub convert-spec : {M : Type 1} → statement M
 convert-spec =

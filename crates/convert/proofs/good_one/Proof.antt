@@ -1,6 +1,6 @@
 -- `convert::good_one` meets its contract.
 use Rattle.block.proofs.Layouts.{small-one, small-as}
-use Rattle.convert.proofs.Converting.{not-edition-one, one-header, one-memory, one-room, one-judged}
+use Rattle.convert.proofs.Converting.{old-header, old-memory, not-edition-one, edition-one, one-room, one-judged}
 use borrow.Author.Needs.{needs}
 use Rattle.convert.proofs.good_one.Statement.{statement}
 use Rattle.convert.proofs.good_one.Tie as tie
@@ -15,7 +15,7 @@ returns : tie.Need-returns
 returns c = search (not-edition-one, needs)
 
 get-header-requires : tie.Need-get-header-requires
-get-header-requires c κs = search (one-header, needs)
+get-header-requires c κs = search (old-header, edition-one, needs)
 
 sub-flags-one : tie.Need-sub-flags-one
 sub-flags-one c = search needs
@@ -24,7 +24,7 @@ part-flags-one-start : tie.Need-part-flags-one-start
 part-flags-one-start c = search needs
 
 part-flags-one-end : tie.Need-part-flags-one-end
-part-flags-one-end c = search (one-memory, needs)
+part-flags-one-end c = search (old-memory, edition-one, needs)
 
 cast-flags-one : tie.Need-cast-flags-one
 cast-flags-one c = search needs

@@ -61,6 +61,7 @@ extern "C" {
 /* Limits. */
 #define MEMBLOCK_TOP UINT64_C(0xFFFFFFFFFFFFFFFF)      /* ranges of table commands are cut here: the last address is in no table */
 #define MEMBLOCK_NO_LIMIT UINT64_C(0xFFFFFFFFFFFFFFFF) /* the limit of a fresh block */
+#define MEMBLOCK_NO_IMAGE 0                            /* the image end of a fresh block */
 #define MEMBLOCK_LOWEST_START 4096                     /* find and allocate start no lower */
 #define MEMBLOCK_MEMORY_CAPACITY 128                   /* records */
 #define MEMBLOCK_TAKEN_CAPACITY 512
@@ -91,11 +92,13 @@ extern "C" {
 #define MEMBLOCK_LIMIT_AT 40        /* u64 */
 #define MEMBLOCK_DIRECTION_AT 48    /* u32, then u32 zero */
 #define MEMBLOCK_MEMORY_TOTAL_AT 56 /* u64: how many addresses are present */
-#define MEMBLOCK_TAKEN_TOTAL_AT 64  /* u64: how many are taken; then u64 zero */
+#define MEMBLOCK_TAKEN_TOTAL_AT 64  /* u64: how many are taken */
+#define MEMBLOCK_IMAGE_END_AT 72    /* u64: where the image ends, any number; MEMBLOCK_NO_IMAGE where there is none */
 #define MEMBLOCK_MEMORY_AT 80       /* MEMBLOCK_MEMORY_CAPACITY records */
 #define MEMBLOCK_TAKEN_AT 3152      /* MEMBLOCK_TAKEN_CAPACITY records */
 
-/* The block of edition 1, which only memblock_convert takes: the same offsets, 128 records in each table. */
+/* The block of edition 1, which only memblock_convert takes: the same offsets, 128 records in each table, zero in the place of the
+ * image end. */
 #define MEMBLOCK_EDITION_1 1
 #define MEMBLOCK_EDITION_1_LENGTH 6224
 #define MEMBLOCK_EDITION_1_TAKEN_CAPACITY 128
@@ -122,6 +125,7 @@ extern "C" {
  * than this. They are of the archive as this tree builds it. */
 #define MEMBLOCK_STACK_FRESH 64
 #define MEMBLOCK_STACK_SET 320
+#define MEMBLOCK_STACK_SET_IMAGE_END 320
 #define MEMBLOCK_STACK_ADD 3712
 #define MEMBLOCK_STACK_REMOVE 3712
 #define MEMBLOCK_STACK_MARK 3712
@@ -130,23 +134,27 @@ extern "C" {
 #define MEMBLOCK_STACK_FREE 3712
 #define MEMBLOCK_STACK_TRIM 320
 #define MEMBLOCK_STACK_NEXT_FREE 384
-#define MEMBLOCK_STACK_FIND 384
-#define MEMBLOCK_STACK_ALLOCATE 448
+#define MEMBLOCK_STACK_FIND 576
+#define MEMBLOCK_STACK_ALLOCATE 576
 #define MEMBLOCK_STACK_INTAKE_E820 6912
 #define MEMBLOCK_STACK_CONVERT 320
 #define MEMBLOCK_STACK 6912 /* the most of these */
 
-/* Writes a fresh block over any MEMBLOCK_BLOCK_LENGTH bytes: both tables empty, no limit, top-down. Answers 0 or 1. */
+/* Writes a fresh block over any MEMBLOCK_BLOCK_LENGTH bytes: both tables empty, no limit, top-down, no image. Answers 0 or 1. */
 uint32_t memblock_fresh(uint8_t *block, size_t length);
 
-/* Writes what a good edition 1 block says over any MEMBLOCK_BLOCK_LENGTH bytes: records, limit and direction as they are there. Good is
- * as it was then: MEMBLOCK_EDITION_1_LENGTH bytes, flags 0 or MEMBLOCK_NO_MAP. The two buffers share no byte, and old is not written.
- * Answers 0 or 1. */
+/* Writes what a good edition 1 block says over any MEMBLOCK_BLOCK_LENGTH bytes: records, limit and direction as they are there, no
+ * image. Good is as it was then: MEMBLOCK_EDITION_1_LENGTH bytes, flags 0 or MEMBLOCK_NO_MAP, no image end. The two buffers share no
+ * byte, and old is not written. Answers 0 or 1. */
 uint32_t memblock_convert(const uint8_t *old, size_t old_length, uint8_t *block, size_t length);
 
-/* Stores a limit and a direction. Find and allocate give no range that ends above the limit, so none at all where it is
- * MEMBLOCK_LOWEST_START or lower; next free takes no notice of it. Answers 0, 1 or 7. */
+/* Stores a limit and a direction; the image end stays. Find and allocate give no range that ends above the limit, so none at all
+ * where it is MEMBLOCK_LOWEST_START or lower; next free takes no notice of it. Answers 0, 1 or 7. */
 uint32_t memblock_set(uint8_t *block, size_t length, uint64_t limit, uint32_t direction);
+
+/* Stores the image end, any number, MEMBLOCK_NO_IMAGE where there is none; all else stays. A bottom-up search looks at or above it
+ * first; a top-down one and next free take no notice of it. What the image covers is for the caller to reserve. Answers 0 or 1. */
+uint32_t memblock_set_image_end(uint8_t *block, size_t length, uint64_t end);
 
 /* Commands on the range from base up to, not including, base + size, cut at MEMBLOCK_TOP. A size of 0 changes nothing.
  * Each answers 0, 1 or 6; add, mark and unmark also 2, whatever the size. */
@@ -176,15 +184,16 @@ uint32_t memblock_trim(uint8_t *block, size_t length, uint64_t alignment);
 uint32_t memblock_next_free(const uint8_t *block, size_t length, uint64_t from, uint32_t node, uint32_t wish, uint8_t *slip,
                             size_t slip_length);
 
-/* Slip: the lowest (bottom-up) or highest (top-down) multiple a of alignment with start <= a and a + size <= end whose size
- * addresses lie in one free run of the node and the wish, and the end of that run, which neither end nor the limit cuts: it is never below
- * a + size. End 0 is the block's limit, and an end above the limit is cut to it; start is raised to MEMBLOCK_LOWEST_START, then end
- * to start. Answers 0, 8, 1, 2, 3, 4 or 5. */
+/* Slip: a multiple a of alignment with start <= a and a + size <= end whose size addresses lie in one free run of the node and the
+ * wish, and the end of that run, which neither end nor the limit nor the image end cuts: it is never below a + size. Top-down a is the
+ * highest of these; bottom-up it is the lowest that is not below the image end, and where all are below it, the highest. End 0 is the
+ * block's limit, and an end above the limit is cut to it; start is raised to MEMBLOCK_LOWEST_START, then end to start. Answers 0, 8, 1,
+ * 2, 3, 4 or 5. */
 uint32_t memblock_find(const uint8_t *block, size_t length, uint64_t size, uint64_t alignment, uint64_t start, uint64_t end,
                        uint32_t node, uint32_t wish, uint8_t *slip, size_t slip_length);
 
-/* Reserves the size addresses that find finds. Answers as find does, the end being that of the run before the call, or 6; there is no
- * second try at another address. */
+/* Reserves the size addresses that find finds. Answers as find does, the end being that of the run before the call, or 6: then there
+ * is no second try at another address. */
 uint32_t memblock_allocate(uint8_t *block, size_t length, uint64_t size, uint64_t alignment, uint64_t start, uint64_t end,
                            uint32_t node, uint32_t wish, uint8_t *slip, size_t slip_length);
 

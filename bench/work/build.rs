@@ -11,9 +11,10 @@
 use std::path::{Path, PathBuf};
 use std::process::Command;
 
-const FUNCTIONS: [&str; 13] = [
+const FUNCTIONS: [&str; 14] = [
     "memblock_fresh",
     "memblock_set",
+    SET_IMAGE_END,
     "memblock_add",
     "memblock_remove",
     "memblock_mark",
@@ -26,6 +27,9 @@ const FUNCTIONS: [&str; 13] = [
     "memblock_allocate",
     "memblock_intake_e820",
 ];
+
+/// The function that an archive from before request E7 does not have.
+const SET_IMAGE_END: &str = "memblock_set_image_end";
 
 /// Before the names of the functions of the archive that BENCH_BEFORE names.
 const BEFORE: &str = "before_";
@@ -48,7 +52,10 @@ fn main() {
 
     let library = "src/library.rs";
     println!("cargo:rerun-if-changed={library}");
-    let text = std::fs::read_to_string(library).expect("it stands beside build.rs");
+    let mut text = std::fs::read_to_string(library).expect("it stands beside build.rs");
+    if !defines(&before, SET_IMAGE_END) {
+        text = without_image_end(&text);
+    }
     let text = text
         .replace("memblock_", &format!("{BEFORE}memblock_"))
         .replace("\"library\"", "\"before\"");
@@ -72,6 +79,28 @@ fn without_words(text: &str) -> String {
             .replace(&format!(", {word}, s, m)"), ", s, m)");
     }
     text
+}
+
+/// The text without the function that sets the image end: nothing calls it.
+fn without_image_end(text: &str) -> String {
+    text.replace(
+        &format!("fn {SET_IMAGE_END}(block: *mut u8, len: usize, end: u64) -> u32;"),
+        "",
+    )
+    .replace(
+        &format!("{SET_IMAGE_END}(b, n, end)"),
+        "unreachable!(\"no function for an image end of {end}\")",
+    )
+}
+
+/// Whether an archive defines a function.
+fn defines(archive: &Path, name: &str) -> bool {
+    let listing = run(Command::new("nm")
+        .args(["-g", "--defined-only"])
+        .arg(archive));
+    listing
+        .lines()
+        .any(|line| line.ends_with(&format!(" T {name}")))
 }
 
 /// The archive that a variable names, if it is set.
@@ -120,11 +149,12 @@ fn link(archive: &Path, prefix: &str, place: u32, out: &Path) {
     println!("cargo:rustc-link-lib=static={name}");
 }
 
-/// Runs a program that must not fail.
-fn run(command: &mut Command) {
+/// Runs a program and gives what it printed; it must not fail.
+fn run(command: &mut Command) -> String {
     let output = command
         .output()
         .unwrap_or_else(|e| panic!("cannot run {command:?}: {e}"));
     let errors = String::from_utf8_lossy(&output.stderr);
     assert!(output.status.success(), "{command:?} failed:\n{errors}");
+    String::from_utf8_lossy(&output.stdout).into_owned()
 }

@@ -1,5 +1,5 @@
 /* A boot: the machine's memory map taken in as an E820 report, what is in use reserved, memory marked, allocations in both directions,
- * each kind of refusal.
+ * bottom-up above the image and the other way, each kind of refusal.
  *
  * Writes a line for each call, with its numbers, the number answered, a sum over the block's bytes and the slip, or a sum over the
  * bytes of the report or of the old block; at the end both tables. tests/transcript replays the lines on the second program. Runs
@@ -163,6 +163,13 @@ static uint32_t set(struct lent *lent, uint64_t limit, uint32_t direction)
     named(", ", limit);
     named(", ", direction);
     return end(lent, memblock_set(lent->bytes, LENGTH, limit, direction));
+}
+
+static uint32_t set_image_end(struct lent *lent, uint64_t image_end)
+{
+    begin("set_image_end", lent, LENGTH);
+    named(", ", image_end);
+    return end(lent, memblock_set_image_end(lent->bytes, LENGTH, image_end));
 }
 
 static uint32_t add(struct lent *lent, uint64_t base, uint64_t size, uint32_t flags, uint32_t node)
@@ -458,8 +465,33 @@ static void converted(void)
     convert(OLD_LENGTH, &mirror, OLD_LENGTH);
     convert(OLD_LENGTH, &mirror, LENGTH);
     compare();
+    poke(&old, MEMBLOCK_IMAGE_END_AT, 1); /* edition 1 has no image end */
+    convert(OLD_LENGTH, &mirror, LENGTH);
+    poke(&old, MEMBLOCK_IMAGE_END_AT, 0);
     poke(&old, OLD_LENGTH - 1, 1);
     convert(OLD_LENGTH, &mirror, LENGTH);
+}
+
+/* The image's end, where bottom-up allocations begin from now on; those that find no room there, as none is mapped yet above it, go
+ * as high below as can be. */
+static void above_the_image(void)
+{
+    const uint64_t image_end = machine->held[0].base + machine->held[0].size;
+    find(&block, PAGE, PAGE, 0, 0, ANY);
+    set_image_end(&block, image_end);
+    find(&block, PAGE, PAGE, 0, 0, ANY);
+    take(PAGE, PAGE, 0, 0);
+    next_free(&block, 0, ANY, NONE, MEMBLOCK_SLIP_LENGTH); /* takes no notice */
+    set(&block, image_end, MEMBLOCK_BOTTOM_UP);
+    take(2 * PAGE, PAGE, 0, 0);
+    find(&block, MIB(1), 1, 0, 0, ANY); /* no room above, nor below */
+    /* An image end at the top leaves nothing above it. */
+    set(&block, GIB(4), MEMBLOCK_BOTTOM_UP);
+    set_image_end(&block, MEMBLOCK_TOP);
+    take(PAGE, PAGE, 0, 0);
+    set(&block, GIB(4), MEMBLOCK_TOP_DOWN);
+    find(&block, PAGE, PAGE, 0, 0, ANY);
+    set_image_end(&block, image_end);
 }
 
 /* The top 64 KiB below 4 GiB go to the firmware: no-map; then half of it comes back. */
@@ -517,7 +549,7 @@ static void trace(void)
 static void allocations(void)
 {
     set(&block, GIB(4), MEMBLOCK_BOTTOM_UP);
-    take(PAGE, PAGE, 0, MIB(1)); /* a start page for other processors */
+    take(PAGE, PAGE, 0, MIB(1)); /* a start page for other processors, below the image */
     take(3 * PAGE, PAGE, 0, 0);
     take(64, 64, 0, 0);
     take(24, 1, 0, 0);
@@ -561,6 +593,7 @@ static void bad_block(void)
     uint8_t byte = block.bytes[MEMBLOCK_MEMORY_TOTAL_AT];
     poke(&block, MEMBLOCK_MEMORY_TOTAL_AT, (uint8_t)(byte + 1));
     set(&block, 0, 2);
+    set_image_end(&block, 0);
     add(&block, 0, PAGE, MEMBLOCK_FLAGS + 1, 0);
     REMOVE(&block, 0, PAGE);
     mark(&block, 0, PAGE, 0);
@@ -734,6 +767,7 @@ static void tables(const struct lent *lent)
     text("\n");
     named("limit ", number_at(lent->bytes, MEMBLOCK_LIMIT_AT, 8));
     named(" direction ", number_at(lent->bytes, MEMBLOCK_DIRECTION_AT, 4));
+    named(" image end ", number_at(lent->bytes, MEMBLOCK_IMAGE_END_AT, 8));
     text("\n");
 }
 
@@ -766,6 +800,7 @@ int boot(const struct machine *runs_on)
     same_backwards(take_entries);
     same_backwards(take_report);
     converted();
+    above_the_image();
     firmware();
     hotplug_and_mirror();
     allocations();

@@ -15,7 +15,7 @@ struct map_entry {
     uint32_t kind;
 };
 
-/* What is in use before the first call. */
+/* What is in use before the first call; the image first. */
 struct held {
     uint64_t base;
     uint64_t size;

@@ -45,7 +45,7 @@ __asm__(".text\n"
         "    popq %rbp\n"
         "    ret\n");
 
-enum numbers { NONE, LIMIT, RANGE_TAG, RANGE_FLAG, RANGE, ALIGNMENT, FROM, SEARCH, REPORT, OLD };
+enum numbers { NONE, LIMIT, IMAGE_END, RANGE_TAG, RANGE_FLAG, RANGE, ALIGNMENT, FROM, SEARCH, REPORT, OLD };
 
 static struct function {
     const char *name;
@@ -57,6 +57,7 @@ static struct function {
 } functions[] = {
     {"fresh", (void (*)(void))memblock_fresh, NONE, MEMBLOCK_STACK_FRESH, 0, 0, 0},
     {"set", (void (*)(void))memblock_set, LIMIT, MEMBLOCK_STACK_SET, 0, 0, 0},
+    {"set_image_end", (void (*)(void))memblock_set_image_end, IMAGE_END, MEMBLOCK_STACK_SET_IMAGE_END, 0, 0, 0},
     {"add", (void (*)(void))memblock_add, RANGE_TAG, MEMBLOCK_STACK_ADD, 0, 0, 0},
     {"remove", (void (*)(void))memblock_remove, RANGE, MEMBLOCK_STACK_REMOVE, 0, 0, 0},
     {"mark", (void (*)(void))memblock_mark, RANGE_FLAG, MEMBLOCK_STACK_MARK, 0, 0, 0},
@@ -95,7 +96,7 @@ static uint64_t below(uint64_t end)
 }
 
 /* Memory records of 4 KiB, of which every third touches the one before, of any flags or of those of edition 1; taken records of 256
- * bytes within them. */
+ * bytes within them; no image end. */
 static void fill_tables(unsigned memory, unsigned taken, uint32_t direction, int any_flags)
 {
     memblock_fresh(before, sizeof before);
@@ -192,6 +193,9 @@ static size_t choose(enum numbers numbers, uint64_t *arguments)
         arguments[n++] = any();
         arguments[n++] = below(3);
         return n;
+    case IMAGE_END:
+        arguments[n++] = address();
+        return n;
     case RANGE_TAG:
         arguments[n++] = address();
         arguments[n++] = size();
@@ -271,8 +275,11 @@ int main(void)
     for (size_t m = 0; m < sizeof memory / sizeof memory[0]; m++)
         for (size_t t = 0; t < sizeof taken / sizeof taken[0]; t++)
             for (unsigned turn = 0; turn < TURNS; turn++) {
+                int as_edition_1 = turn / 50 % 3 != 0;
                 if (turn % 50 == 0)
-                    fill_tables(memory[m], taken[t], turn / 50 % 2, turn / 50 % 3 == 0);
+                    fill_tables(memory[m], taken[t], turn / 50 % 2, !as_edition_1);
+                if (!as_edition_1)
+                    memblock_set_image_end(before, sizeof before, address());
                 if (turn % 50 == 49)
                     before[below(sizeof before)] ^= 1; /* most such blocks are bad */
                 for (size_t i = 0; i < count; i++)

@@ -8,9 +8,10 @@
 use std::path::{Path, PathBuf};
 use std::process::Command;
 
-const FUNCTIONS: [&str; 14] = [
+const FUNCTIONS: [&str; 15] = [
     "memblock_fresh",
     "memblock_set",
+    "memblock_set_image_end",
     "memblock_add",
     "memblock_remove",
     "memblock_mark",

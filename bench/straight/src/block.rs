@@ -100,7 +100,6 @@ impl<B: AsRef<[u8]>> Block<B> {
             && read_u32(block, 4) == 2
             && read_u32(block, 48) <= 1
             && read_u32(block, 52) == 0
-            && read_u64(block, 72) == 0
             && good_table(block, Which::Memory)
             && good_table(block, Which::Taken);
         good.then_some(Block(bytes))
@@ -116,6 +115,10 @@ impl<B: AsRef<[u8]>> Block<B> {
 
     pub fn direction(&self) -> u32 {
         read_u32(self.bytes(), 48)
+    }
+
+    pub fn image_end(&self) -> u64 {
+        read_u64(self.bytes(), 72)
     }
 
     fn count(&self, which: Which) -> usize {
@@ -143,6 +146,10 @@ impl<B: AsRef<[u8]> + AsMut<[u8]>> Block<B> {
     pub fn set(&mut self, limit: u64, direction: u32) {
         write_u64(self.bytes_mut(), 40, limit);
         write_u32(self.bytes_mut(), 48, direction);
+    }
+
+    pub fn set_image_end(&mut self, end: u64) {
+        write_u64(self.bytes_mut(), 72, end);
     }
 
     /// Gives each address of the range the tag that `new_tag` makes of its old

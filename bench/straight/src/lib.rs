@@ -1,7 +1,7 @@
 //! The twelve commands of document 01 and the E820 intake of request E1, on the
-//! block of request E4, with the flags and wishes of request E6, as plain Rust: the
-//! program that the library's speed is held against. Same rules, same numbers, same
-//! bytes.
+//! block of request E4, with the flags and wishes of request E6 and the image end of
+//! request E7, as plain Rust: the program that the library's speed is held against.
+//! Same rules, same numbers, same bytes.
 
 #![forbid(unsafe_code)]
 
@@ -53,6 +53,15 @@ pub fn set(block: &mut [u8], limit: u64, direction: u32) -> u32 {
         return BAD_DIRECTION;
     }
     block.set(limit, direction);
+    DONE
+}
+
+#[inline(never)]
+pub fn set_image_end(block: &mut [u8], end: u64) -> u32 {
+    let Some(mut block) = Block::check(block) else {
+        return BAD_BLOCK;
+    };
+    block.set_image_end(end);
     DONE
 }
 

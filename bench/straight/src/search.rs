@@ -49,21 +49,29 @@ pub struct Query {
     pub wanted: Wanted,
 }
 
-/// The lowest or highest eligible address, and the end of its run.
+/// The highest eligible address or, bottom-up, the lowest at or above the image end if
+/// there is one; and the end of its run.
 pub fn find<B: AsRef<[u8]>>(
     block: &Block<B>,
     query: &Query,
     direction: Direction,
 ) -> Option<(u64, u64)> {
-    match direction {
-        Direction::BottomUp => lowest(block, query.start, query.end, query.wanted, |from, to| {
-            let address = from.checked_next_multiple_of(query.alignment)?;
-            (address <= to && to - address >= query.size).then_some(address)
-        }),
-        Direction::TopDown => highest(block, query.start, query.end, query.wanted, |from, to| {
+    let down = || {
+        highest(block, query.start, query.end, query.wanted, |from, to| {
             let address = to.checked_sub(query.size)? & !(query.alignment - 1);
             (address >= from).then_some(address)
-        }),
+        })
+    };
+    match direction {
+        Direction::BottomUp => {
+            let above = query.start.max(block.image_end());
+            let up = lowest(block, above, query.end, query.wanted, |from, to| {
+                let address = from.checked_next_multiple_of(query.alignment)?;
+                (address <= to && to - address >= query.size).then_some(address)
+            });
+            up.or_else(down)
+        }
+        Direction::TopDown => down(),
     }
 }
 

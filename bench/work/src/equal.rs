@@ -2,7 +2,7 @@
 
 use crate::rng::Rng;
 use crate::sides::{
-    call_both, entry, Block, Call, Side, ANY_NODE, HOTPLUG, LENGTH, MIRROR, NO_MAP,
+    call_both, entry, Block, Call, Side, Straight, ANY_NODE, HOTPLUG, LENGTH, MIRROR, NO_MAP,
 };
 
 /// Makes this many calls; fails at the first difference.
@@ -11,6 +11,7 @@ pub fn random_calls<Other: Side>(calls: u64) {
     let mut block = Block::fresh();
     let mut seen = [0u64; 11];
     let mut taken_full = false;
+    let (mut above, mut other_way) = (false, false);
     for turn in 0..calls {
         let wide = turn % 4000 < 2000;
         if turn % 2000 == 0 {
@@ -23,6 +24,10 @@ pub fn random_calls<Other: Side>(calls: u64) {
         if rng.between(0, 19) == 0 {
             let mut damaged = damaged(&mut rng, &block);
             seen[call_both::<Other>(call, &mut damaged) as usize] += 1;
+        }
+        if let Some(from_image_end) = from_image_end(call, &block) {
+            above |= from_image_end >= 0;
+            other_way |= from_image_end < 0;
         }
         let number = call_both::<Other>(call, &mut block);
         seen[number as usize] += 1;
@@ -48,11 +53,29 @@ pub fn random_calls<Other: Side>(calls: u64) {
     let met = |number: usize| seen[number] > 0;
     assert!((0..8).chain([10]).all(met), "not every number met");
     assert!(taken_full, "the taken table was never full");
+    assert!(
+        above && other_way,
+        "no search went up from an image end, or none the other way"
+    );
     println!(
         "bench: {} random calls on library and {}, all equal",
         seen.iter().sum::<u64>(),
         Other::NAME
     );
+}
+
+/// How far above the image end a bottom-up search gives an address, if there is an image.
+fn from_image_end(call: Call, block: &Block) -> Option<i128> {
+    let number = |at: usize, bytes: &[u8]| {
+        u64::from_le_bytes(bytes[at..at + 8].try_into().expect("8 bytes"))
+    };
+    let image_end = number(72, &block.0);
+    if !matches!(call, Call::Find(..) | Call::Allocate(..)) || block.0[48] == 0 || image_end == 0 {
+        return None;
+    }
+    let mut slip = [0; 16];
+    let done = Straight::call(call, &mut block.clone(), &mut slip) == straight::DONE;
+    done.then(|| i128::from(number(0, &slip)) - i128::from(image_end))
 }
 
 /// As many taken records as there may be, where random calls have their ranges.
@@ -161,7 +184,11 @@ fn random_call(rng: &mut Rng, wide: bool) -> Call<'static> {
         130..=149 => Call::Free(base, size),
         150 => Call::Trim(alignment.min(16)),
         151..=159 => Call::Set(if wide { u64::MAX } else { base }, rng.between(0, 2) as u32),
-        160..=169 => Call::NextFree(base, node, wish),
+        160 | 161 => Call::SetImageEnd(match rng.between(0, 3) {
+            0 => 0,
+            _ => base,
+        }),
+        162..=169 => Call::NextFree(base, node, wish),
         170..=184 => Call::Find(size, alignment, start, end, node, wish),
         _ => Call::Allocate(size, alignment, start, end, node, wish),
     }

@@ -1,5 +1,5 @@
 // The functions of an archive. This text is compiled three times: for the archive that is measured, and by build.rs under other names for an earlier one,
-// as it is and without flag and wish, which the functions take since request E6.
+// as it is and without flag and wish, which the functions take since request E6; without the image end, where the earlier one has no function for it.
 
 use crate::sides::{Block, Call, Side, Slip, LENGTH};
 
@@ -7,6 +7,7 @@ use crate::sides::{Block, Call, Side, Slip, LENGTH};
 extern "C" {
     fn memblock_fresh(block: *mut u8, len: usize) -> u32;
     fn memblock_set(block: *mut u8, len: usize, limit: u64, direction: u32) -> u32;
+    fn memblock_set_image_end(block: *mut u8, len: usize, end: u64) -> u32;
     fn memblock_add(block: *mut u8, len: usize, base: u64, size: u64, flags: u32, node: u32) -> u32;
     fn memblock_remove(block: *mut u8, len: usize, base: u64, size: u64) -> u32;
     fn memblock_mark(block: *mut u8, len: usize, base: u64, size: u64, flag: u32) -> u32;
@@ -37,6 +38,7 @@ impl Side for Library {
             match call {
                 Call::Fresh => memblock_fresh(b, n),
                 Call::Set(limit, direction) => memblock_set(b, n, limit, direction),
+                Call::SetImageEnd(end) => memblock_set_image_end(b, n, end),
                 Call::Add(base, size, flags, node) => memblock_add(b, n, base, size, flags, node),
                 Call::Remove(base, size) => memblock_remove(b, n, base, size),
                 Call::Mark(base, size, flag) => memblock_mark(b, n, base, size, flag),

@@ -70,7 +70,11 @@ fn main() {
             parts[0].1 = equal_left_out;
             parts
         } else {
-            parts::<Before>()
+            let mut parts = parts::<Before>();
+            if knows_no_image() {
+                parts[0].1 = equal_left_out;
+            }
+            parts
         }
     } else {
         parts::<Straight>()
@@ -95,10 +99,19 @@ fn takes_no_wish() -> bool {
     Before::call(call, &mut Block::fresh(), &mut [0; 16]) == straight::BAD_SLIP
 }
 
+/// Whether the archive beside is from before request E7: a block with an image end is
+/// not good there.
+fn knows_no_image() -> bool {
+    let mut block = Block::fresh();
+    assert_eq!(straight::set_image_end(&mut block.0, 1), 0);
+    let call = Call::Set(0, TOP_DOWN);
+    Before::call(call, &mut block, &mut [0; 16]) == straight::BAD_BLOCK
+}
+
 fn equal_left_out() {
     println!(
-        "bench: equal left out: the archive beside is from before request E6, and has other \
-         rules for flags; the calls of the other parts are the same on both"
+        "bench: equal left out: the archive beside is from before request E6 or E7, and has \
+         other rules for flags, or no image end; the calls of the other parts are the same on both"
     );
 }
 

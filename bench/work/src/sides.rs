@@ -29,6 +29,7 @@ pub type Slip = [u8; 16];
 pub enum Call<'a> {
     Fresh,
     Set(u64, u32),
+    SetImageEnd(u64),
     Add(u64, u64, u32, u32),
     Remove(u64, u64),
     /// Base, size, flag.
@@ -71,6 +72,7 @@ impl Side for Straight {
         match call {
             Call::Fresh => straight::fresh(b),
             Call::Set(limit, direction) => straight::set(b, limit, direction),
+            Call::SetImageEnd(end) => straight::set_image_end(b, end),
             Call::Add(base, size, flags, node) => straight::add(b, base, size, flags, node),
             Call::Remove(base, size) => straight::remove(b, base, size),
             Call::Mark(base, size, flag) => straight::mark(b, base, size, flag),

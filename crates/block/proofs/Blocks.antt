@@ -8,7 +8,7 @@ use lib.Dec.{leb}
 use lib.ListN.{length, take, drop, replicate, length-append, length-drop, length-replicate, take-append-drop}
 use lib.Seq.{take-at, drop-at, length-take-le, take-all, drop-drop}
 use borrow.Author.Tests.{leb-true, le-leb, not-true, not-false}
-use Rattle.address.proofs.Tests.{both, and, no, clash, zero-not-one}
+use Rattle.address.proofs.Tests.{both, and, no, clash, iff, zero-not-one}
 use Rattle.address.specs.declared.Size.{Size}
 use Rattle.regions.specs.declared.Kind.{Kind}
 use Rattle.regions.specs.declared.Kind.the-variants.{Memory, Taken}
@@ -28,11 +28,6 @@ use Rattle.records.specs.declared.table.Checked.the-variants.{Total, Bad}
 use Rattle.records.proofs.Zeros.{zeros-replicate, replicate-zeros}
 use Rattle.block.proofs.Same.{same-self, same-true}
 use Rattle.block.proofs.Headers.{header-length}
-
-iff : (a b : Bool) → (a ≡ true → b ≡ true) → (b ≡ true → a ≡ true) → a ≡ b
-iff true b f g = sym (f refl)
-iff false true f g = g refl
-iff false false f g = refl
 
 -- ---- tables
 

@@ -30,9 +30,9 @@ pub settings-length : (s : Settings) → length (settingsBytes s) ≡ 16
 unfolding settingsBytes
 settings-length s = simp (length-append, bytes-length)
 
-totals-length : (m t : ℕ) → length (totalsBytes m t) ≡ 24
+totals-length : (m t e : ℕ) → length (totalsBytes m t e) ≡ 24
 unfolding totalsBytes
-totals-length m t = simp (length-append, bytes-length)
+totals-length m t e = simp (length-append, bytes-length)
 
 pub header-length : (L : Layout) (h : Header) → length (headerBytes L h) ≡ 80
 unfolding headerBytes
@@ -48,9 +48,9 @@ module _ (l : List ℕ) where
   unfolding settingsBytes
   settings-puts s = simp (sets-append, bytes-length)
 
-  pub totals-puts : (m t : ℕ) → sets (sets (sets l 56 (bytes 8 m)) 64 (bytes 8 t)) 72 (bytes 8 0) ≡ sets l 56 (totalsBytes m t)
+  pub totals-puts : (m t e : ℕ) → sets (sets (sets l 56 (bytes 8 m)) 64 (bytes 8 t)) 72 (bytes 8 e) ≡ sets l 56 (totalsBytes m t e)
   unfolding totalsBytes
-  totals-puts m t = simp (sets-append, bytes-length)
+  totals-puts m t e = simp (sets-append, bytes-length)
 
   pub entries-puts : (L : Layout) (m t : ℕ)
       → sets (sets (sets (sets l 0 (bytes 4 (L .edition))) 4 (bytes 4 2)) 8 (entryBytes 1 80 m (L .memory))) 24 (entryBytes 2 (80 + 24 * L .memory) t (L .taken))
@@ -60,7 +60,7 @@ module _ (l : List ℕ) where
 
   pub header-puts : (L : Layout) (h : Header)
       → sets (sets (sets l 0 (entriesBytes L (h .memory .count) (h .taken .count))) 40 (settingsBytes (h .settings))) 56
-      (totalsBytes (h .memory .total .0) (h .taken .total .0))
+      (totalsBytes (h .memory .total .0) (h .taken .total .0) (h .settings .image .0))
       ≡ sets l 0 (headerBytes L h)
   unfolding headerBytes
   header-puts L h = simp (sets-append, entries-length, settings-length)

@@ -43,7 +43,7 @@ header-spelled L h =
     let e = entry-spelled in
     let m = bytes-append (e 1 (offset L Memory) (h .memory .count) (capacity L Memory)) (e 2 (offset L Taken) (h .taken .count) (capacity L Taken)) in
     let s = bytes-append (n 8 (h .settings .limit .0)) (bytes-append (n 4 (h .settings .direction)) (n 4 0)) in
-    let t = bytes-append (n 8 (h .memory .total .0)) (bytes-append (n 8 (h .taken .total .0)) (n 8 0)) in
+    let t = bytes-append (n 8 (h .memory .total .0)) (bytes-append (n 8 (h .taken .total .0)) (n 8 (h .settings .image .0))) in
     bytes-append (bytes-append (n 4 (L .edition)) (bytes-append (n 4 2) m)) (bytes-append s t)
 
 block-spelled : (L : Layout) (s : Contents) → Bytes (blockBytes L s)
@@ -75,9 +75,9 @@ module _ (L : Layout) (small : Small L) (b : List ℕ) (g : good L b ≡ true) w
 
   with-spellable : (k : Kind) (xs : List Region) → goodTable L k xs ≡ true → Spellable L (withList (contents L b) k xs)
   with-spellable Memory xs h =
-      record { good = with-good Memory xs h; limit = good-spellable L small b (good-bytes L b g) g .limit }
+      record { good = with-good Memory xs h; settings = good-spellable L small b (good-bytes L b g) g .settings }
   with-spellable Taken xs h =
-      record { good = with-good Taken xs h; limit = good-spellable L small b (good-bytes L b g) g .limit }
+      record { good = with-good Taken xs h; settings = good-spellable L small b (good-bytes L b g) g .settings }
 
   pub list-kept : (k : Kind) (xs : List Region) → leb (length xs) (capacity L k) ≡ true → goodList k xs ≡ true
       → Kept L k xs b (blockBytes L (withList (contents L b) k xs))

@@ -33,11 +33,16 @@ past x l m n e = sym (drop-drop n m (x ++ l)) ∙ ap (drop n) (drop-at x l m e)
 field : (k v n : ℕ) (l : List ℕ) → drop (k + n) (bytes k v ++ l) ≡ drop n l
 field k v n l = past (bytes k v) l k n (bytes-length k v)
 
+-- a limit and an image end of 64 bits
+pub record SettingsFit (s : Settings) : Type 0 where
+  pub limit : s .limit .0 < 2 ^ 64
+  pub image : s .image .0 < 2 ^ 64
+
 -- each field of the header fits its place
 pub record HeaderFits (h : Header) : Type 0 where
   pub memory : h .memory .count < 2 ^ 32
   pub taken : h .taken .count < 2 ^ 32
-  pub limit : h .settings .limit .0 < 2 ^ 64
+  pub settings : SettingsFit (h .settings)
   pub direction : h .settings .direction < 2 ^ 32
   pub memory-total : h .memory .total .0 < 2 ^ 64
   taken-total : h .taken .total .0 < 2 ^ 64
@@ -85,16 +90,20 @@ module _ (s : Settings) (l : List ℕ) where
       let e : (bytes 8 (s .limit .0) ++ (d ++ bytes 4 0)) ++ l ≡ bytes 8 (s .limit .0) ++ (d ++ (bytes 4 0 ++ l)) = simp append-assoc in
       rw (e, field 8 (s .limit .0) 0 (d ++ (bytes 4 0 ++ l))) (number-bytes 4 (s .direction) (bytes 4 0 ++ l) h)
 
-module _ (x d : ℕ) (l : List ℕ) where
-  totals-memory : x < 2 ^ 64 → number 8 (totalsBytes x d ++ l) ≡ x
+module _ (x d v : ℕ) (l : List ℕ) where
+  totals-memory : x < 2 ^ 64 → number 8 (totalsBytes x d v ++ l) ≡ x
   unfolding totalsBytes
-  totals-memory h = rw append-assoc (number-bytes 8 x ((bytes 8 d ++ bytes 8 0) ++ l) h)
+  totals-memory h = rw append-assoc (number-bytes 8 x ((bytes 8 d ++ bytes 8 v) ++ l) h)
 
-  totals-taken : d < 2 ^ 64 → number 8 (drop 8 (totalsBytes x d ++ l)) ≡ d
+  totals-split : totalsBytes x d v ++ l ≡ bytes 8 x ++ (bytes 8 d ++ (bytes 8 v ++ l))
   unfolding totalsBytes
-  totals-taken h =
-      let e : (bytes 8 x ++ (bytes 8 d ++ bytes 8 0)) ++ l ≡ bytes 8 x ++ (bytes 8 d ++ (bytes 8 0 ++ l)) = simp append-assoc in
-      rw (e, field 8 x 0 (bytes 8 d ++ (bytes 8 0 ++ l))) (number-bytes 8 d (bytes 8 0 ++ l) h)
+  totals-split = simp append-assoc
+
+  totals-taken : d < 2 ^ 64 → number 8 (drop 8 (totalsBytes x d v ++ l)) ≡ d
+  totals-taken h = rw (totals-split, field 8 x 0 (bytes 8 d ++ (bytes 8 v ++ l))) (number-bytes 8 d (bytes 8 v ++ l) h)
+
+  totals-image : v < 2 ^ 64 → number 8 (drop 16 (totalsBytes x d v ++ l)) ≡ v
+  totals-image h = rw (totals-split, field 8 x 8 (bytes 8 d ++ (bytes 8 v ++ l)), field 8 d 0 (bytes 8 v ++ l)) (number-bytes 8 v l h)
 
 -- the header's fields are read as they were written
 header-read : (L : Layout) (h : Header) (l : List ℕ) → HeaderFits h → readHeader (headerBytes L h ++ l) ≡ h
@@ -102,7 +111,7 @@ unfolding headerBytes
 header-read L h l f =
     let a : List ℕ = entriesBytes L (h .memory .count) (h .taken .count) in
     let s : List ℕ = settingsBytes (h .settings) in
-    let t : List ℕ = totalsBytes (h .memory .total .0) (h .taken .total .0) in
+    let t : List ℕ = totalsBytes (h .memory .total .0) (h .taken .total .0) (h .settings .image .0) in
     let e : (a ++ (s ++ t)) ++ l ≡ a ++ (s ++ (t ++ l)) = simp append-assoc in
     let n : length a ≡ 40 = entries-length L (h .memory .count) (h .taken .count) in
     let m : length s ≡ 16 = settings-length (h .settings) in
@@ -110,20 +119,22 @@ header-read L h l f =
     let d48 : drop 48 (a ++ (s ++ (t ++ l))) ≡ drop 8 (s ++ (t ++ l)) = past a (s ++ (t ++ l)) 40 8 n in
     let d56 : drop 56 (a ++ (s ++ (t ++ l))) ≡ t ++ l = past a (s ++ (t ++ l)) 40 16 n ∙ past s (t ++ l) 16 0 m in
     let d64 : drop 64 (a ++ (s ++ (t ++ l))) ≡ drop 8 (t ++ l) = past a (s ++ (t ++ l)) 40 24 n ∙ past s (t ++ l) 16 8 m in
+    let d72 : drop 72 (a ++ (s ++ (t ++ l))) ≡ drop 16 (t ++ l) = past a (s ++ (t ++ l)) 40 32 n ∙ past s (t ++ l) 16 16 m in
     let p1 = entries-memory L (h .memory .count) (h .taken .count) (s ++ (t ++ l)) (f .memory) in
     let p2 = entries-taken L (h .memory .count) (h .taken .count) (s ++ (t ++ l)) (f .taken) in
-    let p3 = settings-limit (h .settings) (t ++ l) (f .limit) in
+    let p3 = settings-limit (h .settings) (t ++ l) (f .settings .limit) in
     let p4 = settings-direction (h .settings) (t ++ l) (f .direction) in
-    let p5 = totals-memory (h .memory .total .0) (h .taken .total .0) l (f .memory-total) in
-    let p6 = totals-taken (h .memory .total .0) (h .taken .total .0) l (f .taken-total) in
-    rw (e, d40, d48, d56, d64, p1, p2, p3, p4, p5, p6)
+    let p5 = totals-memory (h .memory .total .0) (h .taken .total .0) (h .settings .image .0) l (f .memory-total) in
+    let p6 = totals-taken (h .memory .total .0) (h .taken .total .0) (h .settings .image .0) l (f .taken-total) in
+    let p7 = totals-image (h .memory .total .0) (h .taken .total .0) (h .settings .image .0) l (f .settings .image) in
+    rw (e, d40, d48, d56, d64, d72, p1, p2, p3, p4, p5, p6, p7)
 
 -- ---- the whole block
 
--- contents that can be spelled and read again: good, and a limit of 64 bits
+-- contents that can be spelled and read again: good, with settings that fit
 pub record Spellable (L : Layout) (s : Contents) : Type 0 where
   pub good : goodContents L s ≡ true
-  pub limit : s .settings .limit .0 < 2 ^ 64
+  pub settings : SettingsFit (s .settings)
 
 module _ (L : Layout) (small : Small L) (s : Contents) (sp : Spellable L s) where
   total-fits : (f : Meaning) → total f top < 2 ^ 64
@@ -135,7 +146,7 @@ module _ (L : Layout) (small : Small L) (s : Contents) (sp : Spellable L s) wher
       record {
         memory = omega (arith, room L s (sp .good) Memory, small .memory);
         taken = omega (arith, room L s (sp .good) Taken, small .taken);
-        limit = sp .limit;
+        settings = sp .settings;
         direction = omega (arith, direction-ok L s (sp .good));
         memory-total = total-fits (at (s .memory));
         taken-total = total-fits (at (s .taken));
@@ -186,7 +197,11 @@ same-block L b d g h m t l =
 module _ (L : Layout) (small : Small L) (b : List ℕ) (bs : Bytes b) (g : good L b ≡ true) where
   pub good-spellable : Spellable L (contents L b)
   unfolding contents
-  good-spellable = record { good = good-contents L b g; limit = number-lt 8 (drop 40 b) (bytes-drop 40 b bs) }
+  good-spellable =
+      record {
+        good = good-contents L b g;
+        settings = record { limit = number-lt 8 (drop 40 b) (bytes-drop 40 b bs); image = number-lt 8 (drop 72 b) (bytes-drop 72 b bs) };
+      }
 
   -- its header is that of what it says
   pub good-header : readHeader b ≡ headerOf (contents L b)

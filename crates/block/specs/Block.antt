@@ -57,12 +57,19 @@ abbrev pub withList : Contents → Kind → List Region → Contents
 withList s Memory xs = record { memory = xs; taken = s .taken; settings = s .settings }
 withList s Taken xs = record { memory = s .memory; taken = xs; settings = s .settings }
 
-abbrev pub settings : ℕ → ℕ → Settings
-settings limit direction = record { limit = record { 0 = limit }; direction = direction }
+abbrev pub withSettings : Contents → Settings → Contents
+withSettings s x = record { memory = s .memory; taken = s .taken; settings = x }
 
--- document 01's fresh block: both tables empty, limit 2^64 - 1, top-down
+-- limit, direction and image end (E7); 0 means no image
+abbrev pub settings : ℕ → ℕ → ℕ → Settings
+settings limit direction image = record { limit = record { 0 = limit }; direction = direction; image = record { 0 = image } }
+
+abbrev pub withImage : Settings → ℕ → Settings
+withImage s image = record { limit = s .limit; direction = s .direction; image = record { 0 = image } }
+
+-- document 01's fresh block: both tables empty, limit 2^64 - 1, top-down; and no image
 abbrev pub freshContents : Contents
-freshContents = record { memory = []; taken = []; settings = settings (2 ^ 64 - 1) 0 }
+freshContents = record { memory = []; taken = []; settings = settings (2 ^ 64 - 1) 0 0 }
 
 -- ---- spelling
 
@@ -74,9 +81,9 @@ entryBytes kind offset count capacity = bytes 4 kind ++ (bytes 4 offset ++ (byte
 unfoldable pub settingsBytes : Settings → List ℕ
 settingsBytes s = bytes 8 (s .limit .0) ++ (bytes 4 (s .direction) ++ bytes 4 0)
 
--- u64 memory total, u64 taken total, u64 zero
-unfoldable pub totalsBytes : ℕ → ℕ → List ℕ
-totalsBytes memory taken = bytes 8 memory ++ (bytes 8 taken ++ bytes 8 0)
+-- u64 memory total, u64 taken total, u64 image end (document 01's zero, until E7)
+unfoldable pub totalsBytes : ℕ → ℕ → ℕ → List ℕ
+totalsBytes memory taken image = bytes 8 memory ++ (bytes 8 taken ++ bytes 8 image)
 
 -- u32 edition, u32 number of bodies 2, an entry for each table
 unfoldable pub entriesBytes : Layout → ℕ → ℕ → List ℕ
@@ -88,7 +95,7 @@ entriesBytes L memory taken =
 unfoldable pub headerBytes : Layout → Header → List ℕ
 headerBytes L h =
     entriesBytes L (h .memory .count) (h .taken .count)
-    ++ (settingsBytes (h .settings) ++ totalsBytes (h .memory .total .0) (h .taken .total .0))
+    ++ (settingsBytes (h .settings) ++ totalsBytes (h .memory .total .0) (h .taken .total .0) (h .settings .image .0))
 
 abbrev pub headerOf : Contents → Header
 headerOf s = record { memory = tally (s .memory); taken = tally (s .taken); settings = s .settings }
@@ -103,7 +110,7 @@ readHeader b =
     record {
       memory = record { count = number 4 (drop 16 b); total = record { 0 = number 8 (drop 56 b) } };
       taken = record { count = number 4 (drop 32 b); total = record { 0 = number 8 (drop 64 b) } };
-      settings = settings (number 8 (drop 40 b)) (number 4 (drop 48 b));
+      settings = settings (number 8 (drop 40 b)) (number 4 (drop 48 b)) (number 8 (drop 72 b));
     }
 
 -- a table's bytes

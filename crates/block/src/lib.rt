@@ -13,6 +13,7 @@ ghost use mathlib.Core.Path.{_≡_};
 ghost use Prim.Native.Nat.{_+_, _*_, _<_, _≤_};
 ghost use lib.ListN.{length, take};
 ghost use lib.Seq.{sets};
+ghost use Rattle.regions.specs.Bytes.{bytes};
 ghost use Rattle.block.specs.Block.{editionOne, current, capacity as capacityOf, offset, entryBytes, entriesBytes, settingsBytes, totalsBytes, headerBytes, readHeader, sameBytes, good};
 ghost use Rattle.block.specs.Checks.{Small, withTotals, tallyOf, withTally};
 
@@ -36,10 +37,11 @@ pub struct Layout {
     pub taken: u32,
 }
 
-// What a block is set to: searches end by the limit and go up where the direction is 1.
+// What a block is set to: searches end by the limit, and where the direction is 1 they go up from the image end (0: none) first.
 pub struct Settings {
     pub limit: Address,
     pub direction: u32,
+    pub image: Address,
 }
 
 // What the header says beside the layout.
@@ -140,6 +142,7 @@ fn put_entry(s: &mut [u8], at: usize, kind: u32, offset: u32, count: u32, capaci
     put_u32(s, at + 12, capacity);
 }
 
+// Limit and direction.
 fn put_settings(s: &mut [u8], settings: Settings)
     requires { ⌜ 56 ≤ length (now s) ⌝ }
     ensures { λ _. ⌜ now (s .exit) ≡ sets (now (s .entry)) 40 (settingsBytes settings) ⌝ }
@@ -149,13 +152,22 @@ fn put_settings(s: &mut [u8], settings: Settings)
     put_u32(s, 52, 0);
 }
 
-fn put_totals(s: &mut [u8], memory: Size, taken: Size)
+// The image end alone.
+pub fn put_image_end(s: &mut [u8], image: Address)
     requires { ⌜ 80 ≤ length (now s) ⌝ }
-    ensures { λ _. ⌜ now (s .exit) ≡ sets (now (s .entry)) 56 (totalsBytes (memory .0) (taken .0)) ⌝ }
+    ensures { λ _. ⌜ now (s .exit) ≡ sets (now (s .entry)) 72 (bytes 8 (image .0)) ⌝ }
+{
+    put_u64(s, 72, image.0);
+}
+
+// Both totals and the image end.
+fn put_totals(s: &mut [u8], memory: Size, taken: Size, image: Address)
+    requires { ⌜ 80 ≤ length (now s) ⌝ }
+    ensures { λ _. ⌜ now (s .exit) ≡ sets (now (s .entry)) 56 (totalsBytes (memory .0) (taken .0) (image .0)) ⌝ }
 {
     put_u64(s, 56, memory.0);
     put_u64(s, 64, taken.0);
-    put_u64(s, 72, 0);
+    put_image_end(s, image);
 }
 
 // Edition, number of bodies and both entries.
@@ -179,7 +191,7 @@ pub fn put_header(s: &mut [u8], layout: Layout, h: Header)
     let taken = h.taken;
     put_entries(s, layout, memory.count, taken.count);
     put_settings(s, settings);
-    put_totals(s, memory.total, taken.total);
+    put_totals(s, memory.total, taken.total, settings.image);
 }
 
 // What the header's fields hold, right or not.
@@ -199,6 +211,7 @@ pub fn get_header(b: &[u8]) -> Header
         settings: Settings {
             limit: Address(get_u64(b, 40)),
             direction: get_u32(b, 48),
+            image: Address(get_u64(b, 72)),
         },
     }
 }

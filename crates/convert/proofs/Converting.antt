@@ -1,28 +1,27 @@
 -- Which edition 1 blocks are good by document 01; such a block, converted, is a good block that says the same. Assumes nothing.
 use Prim.Native.Nat.{ℕ, _+_, _*_, _-_, _≤_, _<_}
-use mathlib.Core.Path.{_≡_, refl, sym, ap, _∙_}
+use mathlib.Core.Path.{_≡_, sym, ap, _∙_}
 use mathlib.Core.Bool.{Bool, true, false, not, _&&_, and-true, and-false}
 use mathlib.Core.List.{List, _++_, append-assoc}
 use native.Mathlib.Omega.{arith}
 use native.Mathlib.Nat.{sub-zero}
 use lib.Dec.{eqb}
-use lib.ListN.{length, take, drop, replicate, length-append, length-drop, take-append-drop, replicate-append-replicate}
+use lib.ListN.{length, take, drop, replicate, length-append, length-drop, replicate-append-replicate}
 use lib.Seq.{sets, take-all, take-at, drop-append-le}
 use borrow.Author.Tests.{eq-eqb, eqb-true, ne-eqb, le-leb, not-true, not-false}
 use Rattle.address.proofs.Tests.{no, both, and}
 use Rattle.regions.specs.declared.Kind.the-variants.{Memory, Taken}
 use Rattle.regions.specs.declared.Region.{Region}
 use Rattle.regions.specs.Bytes.{number, readRegion, readRegions, tableBytes}
-use Rattle.regions.proofs.Numbers.{Bytes, number-bytes}
+use Rattle.regions.proofs.Numbers.{Bytes}
 use Rattle.regions.proofs.Records.{read-regions-rest, read-regions-end}
 use Rattle.block.specs.declared.Layout.{Layout}
 use Rattle.block.specs.declared.Header.{Header}
-use Rattle.block.specs.Block.{editionOne, current, capacity, offset, blockLength, freshContents, headerBytes, headerOf, blockBytes, readHeader, contents, goodTable, goodContents, good}
+use Rattle.block.specs.Block.{editionOne, current, capacity, offset, blockLength, Contents, freshContents, headerBytes, headerOf, blockBytes, readHeader, contents, goodTable, goodContents, good}
 use Rattle.block.proofs.Layouts.{small-one, small-current}
 use Rattle.block.proofs.Headers.{sets-header}
 use Rattle.block.proofs.Blocks.{direction-ok, tables-ok, room, lists-ok, good-contents, good-length, counted-room}
 use Rattle.block.proofs.Reading.{Spellable, contents-spelled, good-spelled-block, good-spellable, good-header, good-tables}
-use Rattle.block.proofs.Fields.{good-spare}
 use Rattle.block.proofs.Kept.{good-bytes}
 use Rattle.tables.specs.Commands.{outcome, doneWith}
 use Rattle.convert.specs.Convert.{oldFlags, flagsOne, goodOne, convert, Converts, ConvertSentence}
@@ -31,24 +30,14 @@ use Rattle.tables.proofs.Printed.{fresh-spellable}
 
 -- ---- good by document 01
 
--- the u64 at 72 of a good block is zero
-spare-zero : (old : List ℕ) → good editionOne old ≡ true → number 8 (drop 72 old) ≡ 0
-spare-zero old g =
-    let rest : List ℕ = drop 8 (drop 72 old) in
-    ap (number 8) (sym (take-append-drop 8 (drop 72 old)) ∙ ap (λ (w : List ℕ). w ++ rest) (good-spare editionOne old g)) ∙ number-bytes 8 0 rest (omega arith)
-
--- of good edition 1 blocks those with document 01's flags
-good-one : (old : List ℕ) → goodOne old ≡ good editionOne old && flagsOne (contents editionOne old .memory)
-unfolding goodOne
-good-one old = go (good editionOne old) refl
-  where
-    go : (t : Bool) → good editionOne old ≡ t
-        → t && (flagsOne (contents editionOne old .memory) && eqb (number 8 (drop 72 old)) 0) ≡ t && flagsOne (contents editionOne old .memory)
-    go true g = rw (eq-eqb (number 8 (drop 72 old)) 0 (spare-zero old g)) (and-true (flagsOne (contents editionOne old .memory)))
-    go false g = refl
-
 good-one-is : (old : List ℕ) → goodOne old ≡ true → good editionOne old ≡ true
-good-one-is old e = both (good editionOne old) (flagsOne (contents editionOne old .memory)) (sym (good-one old) ∙ e) .0
+unfolding goodOne
+good-one-is old e = both (good editionOne old) _ e .0
+
+-- it has no image
+one-no-image : (old : List ℕ) → goodOne old ≡ true → contents editionOne old .settings .image .0 ≡ 0
+unfolding goodOne contents
+one-no-image old e = eqb-true (number 8 (drop 72 old)) 0 (both (flagsOne (contents editionOne old .memory)) _ (both (good editionOne old) _ e .1) .1)
 
 module _ (old : List ℕ) (g : good editionOne old ≡ true) where
   pub old-header : 80 ≤ length old
@@ -91,9 +80,10 @@ module _ (l : List ℕ) (n : ℕ) where
 
 module _ (old : List ℕ) (l : Layout) (is : l ≡ editionOne) (g : Bool) (q : g ≡ good l old) where
   pub not-edition-one : not g ≡ true → false ≡ goodOne old
+  unfolding goodOne
   not-edition-one t =
       let k : good editionOne old ≡ false = rw (← is) (sym q ∙ not-true g t) in
-      rw (good-one old, k)
+      rw k
 
   module _ (t : not g ≡ false) where
     pub edition-one : good editionOne old ≡ true
@@ -104,9 +94,18 @@ module _ (old : List ℕ) (l : Layout) (is : l ≡ editionOne) (g : Bool) (q : g
       unfolding capacity offset
       one-room = rw e (counted-room editionOne old edition-one Memory)
 
-      pub one-judged : (f : Bool) → f ≡ flagsOne (readRegions (h .memory .count) (take (3152 - 80) (drop 80 old))) → f ≡ goodOne old
-      unfolding contents capacity offset
-      one-judged f d = rw (good-one old, edition-one) (rw e at d)
+      pub one-image : (h .settings .image .0 ≡ 0 → ⊥) → false ≡ goodOne old
+      unfolding goodOne
+      one-image n =
+          let z : number 8 (drop 72 old) ≡ 0 → ⊥ = rw e at n in
+          rw (ne-eqb (number 8 (drop 72 old)) 0 z, edition-one) (sym (and-false (flagsOne (contents editionOne old .memory))))
+
+      pub one-judged : h .settings .image .0 ≡ 0 → (f : Bool) → f ≡ flagsOne (readRegions (h .memory .count) (take (3152 - 80) (drop 80 old))) → f ≡ goodOne old
+      unfolding goodOne contents capacity offset
+      one-judged n f d =
+          let z : number 8 (drop 72 old) ≡ 0 = rw e at n in
+          let k : f ≡ flagsOne (readRegions (readHeader old .memory .count) (take (3152 - 80) (drop 80 old))) = rw e at d in
+          rw (eq-eqb (number 8 (drop 72 old)) 0 z, edition-one, and-true) k
 
 -- ---- the same in more room
 
@@ -127,7 +126,7 @@ module _ (old : List ℕ) (g : good editionOne old ≡ true) where
       (and (tables-ok editionOne s p Memory) (and (le-leb (length (s .taken)) 512 (omega (arith, room editionOne s p Taken))) (lists-ok editionOne s p Taken)))
 
   spellable-now : Spellable current (contents editionOne old)
-  spellable-now = record { good = good-now; limit = good-spellable editionOne small-one old (good-bytes editionOne old g) g .limit }
+  spellable-now = record { good = good-now; settings = good-spellable editionOne small-one old (good-bytes editionOne old g) g .settings }
 
   -- the old records, zeros behind them, and the new header
   converted : Bytes old → (b : List ℕ) → length b ≡ blockLength current → (x : List ℕ) → x ≡ take (blockLength editionOne) old ++ drop (blockLength editionOne) b
@@ -185,7 +184,8 @@ converts old b =
       refused = λ d. rw (no (goodOne old && eqb (length b) (blockLength current)) (λ e. let p = both (goodOne old) _ e in d (p .0) (eqb-true (length b) _ (p .1))));
       done = given;
       isGood = λ e. let p = passed e in rw (p .0, p .1) (good-spelled-block current small-current (contents editionOne old) (spellable-now old (good-one-is old (p .0))));
-      says = λ e. let p = passed e in rw (p .0, p .1) (contents-spelled current small-current (contents editionOne old) (spellable-now old (good-one-is old (p .0))));
+      says = same;
+      no-image = λ e. ap (λ (s : Contents). s .settings .image .0) (same e) ∙ one-no-image old (passed e .0);
     }
   where
     given : goodOne old ≡ true → length b ≡ blockLength current → convert old b .number ≡ 0
@@ -196,11 +196,18 @@ converts old b =
         let t = goodOne old && eqb (length b) (blockLength current) in
         both (goodOne old) (eqb (length b) (blockLength current)) (was-good t b (doneWith (blockBytes current (contents editionOne old))) e)
 
+    same : convert old b .number ≡ 0 → contents current (convert old b .block) ≡ contents editionOne old
+    same e = let p = passed e in rw (p .0, p .1) (contents-spelled current small-current (contents editionOne old) (spellable-now old (good-one-is old (p .0))))
+
+fresh-image : number 8 (drop 72 (blockBytes editionOne freshContents)) ≡ 0
+unfolding contents
+fresh-image = ap (λ (s : Contents). s .settings .image .0) (contents-spelled editionOne small-one freshContents (fresh-spellable editionOne))
+
 fresh-one : goodOne (blockBytes editionOne freshContents) ≡ true
-unfolding flagsOne
+unfolding goodOne flagsOne
 fresh-one =
     let s = fresh-spellable editionOne in
-    good-one (blockBytes editionOne freshContents) ∙ rw (good-spelled-block editionOne small-one freshContents s, contents-spelled editionOne small-one freshContents s)
+    rw (good-spelled-block editionOne small-one freshContents s, contents-spelled editionOne small-one freshContents s, fresh-image)
 
 pub convert-sentence : ConvertSentence
 unfolding convert

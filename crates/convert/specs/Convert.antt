@@ -27,12 +27,13 @@ unfoldable pub convert : List ℕ → List ℕ → Outcome
 convert old b = unless (goodOne old && eqb (length b) (blockLength current)) 1 b (doneWith (blockBytes current (contents editionOne old)))
 
 -- the request's words: 1, with the block untouched, exactly when the first is not a good edition 1 block or the second has another length; else the block
--- is good and says exactly what the old one says, limit and direction too
+-- is good and says exactly what the old one says, limit and direction too, and has no image
 pub record Converts (old b : List ℕ) : Type 0 where
   pub refused : (goodOne old ≡ true → length b ≡ blockLength current → ⊥) → convert old b ≡ outcome 1 b
   pub done : goodOne old ≡ true → length b ≡ blockLength current → convert old b .number ≡ 0
   pub isGood : convert old b .number ≡ 0 → good current (convert old b .block) ≡ true
   pub says : convert old b .number ≡ 0 → contents current (convert old b .block) ≡ contents editionOne old
+  pub no-image : convert old b .number ≡ 0 → contents current (convert old b .block) .settings .image .0 ≡ 0
 
 -- and a fresh edition 1 block becomes a fresh block
 pub record ConvertSentence : Type 0 where

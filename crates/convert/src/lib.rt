@@ -43,7 +43,7 @@ fn flags_one(t: &[u8], count: usize) -> bool
     true
 }
 
-// Whether a block is a good edition 1 block by document 01, which knows fewer flags than a good block may have now.
+// Whether a block is a good edition 1 block by document 01, which knows no image end and fewer flags than a good block may have now.
 fn good_one(old: &[u8]) -> bool
     ensures { λ r. ⌜ r ≡ goodOne (now (old .entry)) ⌝ }
 {
@@ -51,7 +51,10 @@ fn good_one(old: &[u8]) -> bool
         return false;
     }
     let h = get_header(old);
-    flags_one(&old[80..FRONT], h.memory.count as usize)
+    if h.settings.image.0 == 0 {
+        return flags_one(&old[80..FRONT], h.memory.count as usize);
+    }
+    false
 }
 
 // Writes what an edition 1 block says over any bytes of the right length: its records as they stand, zeros behind them, and the header anew.

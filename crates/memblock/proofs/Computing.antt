@@ -1,5 +1,5 @@
 -- Calls worked out on what a block says: an executable twin of the definitions, for calls that no check refuses. Assumes nothing.
-use Prim.Native.Nat.{ℕ, _+_, _≤_, _<_, min}
+use Prim.Native.Nat.{ℕ, _+_, _≤_, _<_, min, max}
 use mathlib.Core.Path.{_≡_, refl, sym, ap, ap₂, _∙_}
 use mathlib.Core.Bool.{Bool, true, false, cond, _&&_}
 use mathlib.Core.List.{List, [], _∷_, map}
@@ -15,6 +15,7 @@ use Rattle.address.proofs.Powers.{power-is, power-some}
 use Rattle.regions.specs.declared.Kind.{Kind}
 use Rattle.regions.specs.declared.Kind.the-variants.{Memory, Taken}
 use Rattle.regions.specs.declared.Region.{Region}
+use Rattle.regions.specs.declared.Run.{Run}
 use Rattle.regions.specs.declared.State.the-variants.{Absent}
 use Rattle.regions.specs.declared.Change.{Change}
 use Rattle.regions.specs.declared.Change.the-variants.{Fill}
@@ -28,24 +29,26 @@ use Rattle.regions.proofs.Good.{good-rises}
 use Rattle.regions.proofs.Trim.{trim-rounds}
 use Rattle.regions.proofs.Update.{update}
 use Rattle.regions.proofs.Update.{update-shortest}
-use Rattle.block.specs.Block.{current, capacity, settings, Contents, listOf, withList, blockBytes, contents, goodTable, goodContents, good}
-use Rattle.tables.specs.Commands.{outcome, store, tag, changeRange, Command, table, changeOf, legalVerb, commandOutcome, set, trim}
+use Rattle.block.specs.Block.{current, capacity, Contents, listOf, withList, withSettings, settings, withImage, blockBytes, contents, goodTable, goodContents, good}
+use Rattle.tables.specs.Commands.{outcome, store, tag, changeRange, Command, table, changeOf, legalVerb, commandOutcome, set, setImageEnd, trim}
 use Rattle.block.proofs.Blocks.{lists-ok}
 use Rattle.block.proofs.Reading.{Spellable, contents-spelled, good-spelled-block}
 use Rattle.block.proofs.Layouts.{small-current}
 use Rattle.runs.specs.declared.Query.{Query}
 use Rattle.runs.specs.declared.Way.{Way}
 use Rattle.runs.specs.declared.Way.the-variants.{Up, Down}
-use Rattle.search.specs.Search.{window, runsOf, found, foundPlace}
+use Rattle.search.specs.Search.{window, runsOf, bottomUp, found, foundPlace}
+use Rattle.search.specs.Steps.{withWindow}
 use Rattle.search.specs.Answers.{Answer, answer, slipOf, refusal, checkNumber, asking, placeAnswer, find, allocate, allocateAnswer, reserved}
 use Rattle.runs.specs.Places.{Hit, hitOf, placeOf}
-use Rattle.runs.specs.Eligible.{eligible}
+use Rattle.runs.specs.Eligible.{orElse, lowest, highest, eligible}
 use Rattle.runs.specs.Steps.{extreme, firstIn}
 use Rattle.search.proofs.Found.{eligible-below, found-eligible}
+use Rattle.search.proofs.BottomUp.{above, lowest-raised}
 use Rattle.search.proofs.Answering.{number-ready}
 use Rattle.runs.proofs.Ways.{walk, along}
 use Rattle.runs.proofs.Walks.{walk-first}
-use Rattle.memblock.specs.Calls.{Call, toFresh, toSet, toCommand, toTrim, toFind, toNextFree, toAllocate, toIntake, toConvert, answerOf, answers}
+use Rattle.memblock.specs.Calls.{Call, toFresh, toSet, toSetImageEnd, toCommand, toTrim, toFind, toNextFree, toAllocate, toIntake, toConvert, answerOf, answers}
 
 -- ---- which contents can stand in a block, computed
 
@@ -53,13 +56,18 @@ abbrev goodListed : Kind → List Region → Bool
 goodListed k xs = leb (length xs) (capacity current k) && (rises 0 Absent 18446744073709551615 xs && legal k xs)
 
 abbrev pub sound : Contents → Bool
-sound s = (leb (s .settings .direction) 1 && (goodListed Memory (s .memory) && goodListed Taken (s .taken))) && ltb (s .settings .limit .0) 18446744073709551616
+sound s =
+    (leb (s .settings .direction) 1 && (goodListed Memory (s .memory) && goodListed Taken (s .taken)))
+    && (ltb (s .settings .limit .0) 18446744073709551616 && ltb (s .settings .image .0) 18446744073709551616)
 
 pub sound-spellable : (s : Contents) → sound s ≡ true → Spellable current s
 unfolding goodContents goodTable goodList
 sound-spellable s e =
-    let p = both (leb (s .settings .direction) 1 && (goodListed Memory (s .memory) && goodListed Taken (s .taken))) (ltb (s .settings .limit .0) 18446744073709551616) e in
-    record { good = rw top-is (p .0); limit = ltb-true (s .settings .limit .0) 18446744073709551616 (p .1) }
+    let p = both (leb (s .settings .direction) 1 && (goodListed Memory (s .memory) && goodListed Taken (s .taken))) _ e in
+    let l = both (ltb (s .settings .limit .0) 18446744073709551616) (ltb (s .settings .image .0) 18446744073709551616) (p .1) in
+    let x = ltb-true (s .settings .limit .0) 18446744073709551616 (l .0) in
+    let y = ltb-true (s .settings .image .0) 18446744073709551616 (l .1) in
+    record { good = rw top-is (p .0); settings = record { limit = x; image = y } }
 
 -- ---- what a call makes of contents
 
@@ -78,11 +86,19 @@ edited s k c base size = update (change c) base (min (base + size) 1844674407370
 abbrev kept : Contents → Kind → List Region → List ℕ → List ℕ → Result
 kept s k xs done full = cond (leb (length xs) (capacity current k)) (result 0 (withList s k xs) done) (result 6 s full)
 
+-- what a walk finds
+abbrev walked : Way → Contents → Query → Option Hit
+walked v s w = walk v w (along v (s .memory)) (along v (s .taken))
+
+-- the window from the image end on
+abbrev raised : Query → ℕ → Query
+raised w image = withWindow w (record { 0 = max (w .start .0) image }) (w .end)
+
 -- what find finds
 abbrev seek : Contents → Query → Option Hit
 seek s q =
     let w = window (s .settings .limit .0) q in
-    cond (eqb (s .settings .direction) 1) (walk Up w (along Up (s .memory)) (along Up (s .taken))) (walk Down w (along Down (s .memory)) (along Down (s .taken)))
+    cond (eqb (s .settings .direction) 1) (orElse (walked Up s (raised w (s .settings .image .0))) (walked Down s w)) (walked Down s w)
 
 abbrev finds : Contents → Option Hit → Result
 finds s none = result 5 s (replicate 16 0)
@@ -94,7 +110,8 @@ takes s size (some h) = kept s Taken (edited s Taken (Fill (tag 0 0)) (h .at) si
 
 unfoldable pub compute : Call → Contents → Result
 compute toFresh s = result 0 s []
-compute (toSet limit direction) s = result 0 (record { memory = s .memory; taken = s .taken; settings = settings limit direction }) []
+compute (toSet limit direction) s = result 0 (withSettings s (settings limit direction (s .settings .image .0))) []
+compute (toSetImageEnd image) s = result 0 (withSettings s (withImage (s .settings) image)) []
 compute (toCommand c) s = kept s (table (c .verb)) (edited s (table (c .verb)) (changeOf (c .verb)) (c .base) (c .size)) [] []
 compute (toTrim align) s = result 0 (withList s Memory (roundEach align (s .memory))) []
 compute (toFind q slip) s = finds s (seek s q)
@@ -110,6 +127,7 @@ asks q slip = eqb (length slip) 16 && eqb (refusal q) 0
 unfoldable pub computable : Call → Bool
 computable toFresh = false
 computable (toSet limit direction) = leb direction 1
+computable (toSetImageEnd image) = true
 computable (toCommand c) = legalVerb (c .verb) && leb (c .base) 18446744073709551615
 computable (toTrim align) = powerOfTwo align
 computable (toFind q slip) = asks q slip
@@ -146,26 +164,45 @@ module _ (s : Contents) (sp : Spellable current s) where
 
   -- ---- what find finds, by the walks
 
+  hit-else : (W : ℕ → Run) (o u : Option ℕ) → hitOf W (orElse o u) ≡ orElse (hitOf W o) (hitOf W u)
+  hit-else W none u = refl
+  hit-else W (some a) u = refl
+
   seek-is : (q : Query) → 0 < q .size .0 → 0 < q .align .0 → hitOf (runAt (runsOf s)) (found s q) ≡ seek s q
   unfolding found firstIn
   seek-is q i j = go (eqb (s .settings .direction) 1)
     where
+      runs : List Region
+      runs = runsOf s
+
+      image : ℕ
+      image = s .settings .image .0
+
       w : Query
       w = window (s .settings .limit .0) q
 
-      by : (v : Way) → hitOf (runAt (runsOf s)) (extreme v (eligible w (runsOf s)) top) ≡ walk v w (along v (s .memory)) (along v (s .taken))
-      by v = sym (walk-first v w (s .memory) (s .taken) i j (canonical Memory) (canonical Taken))
+      by : (v : Way) (w : Query) → 0 < w .size .0 → 0 < w .align .0 → hitOf (runAt runs) (extreme v (eligible w runs) top) ≡ walked v s w
+      by v w i j = sym (walk-first v w (s .memory) (s .taken) i j (canonical Memory) (canonical Taken))
 
-      go : (t : Bool) → hitOf (runAt (runsOf s)) (cond t (extreme Up (eligible w (runsOf s)) top) (extreme Down (eligible w (runsOf s)) top))
-          ≡ cond t (walk Up w (along Up (s .memory)) (along Up (s .taken))) (walk Down w (along Down (s .memory)) (along Down (s .taken)))
-      go true = by Up
-      go false = by Down
+      up : hitOf (runAt runs) (bottomUp image (eligible w runs)) ≡ orElse (walked Up s (raised w image)) (walked Down s w)
+      up =
+          hit-else (runAt runs) (lowest (above w runs image) top) (highest (eligible w runs) top)
+          ∙ ap₂ orElse (ap (hitOf (runAt runs)) (sym (lowest-raised w runs image (record { 0 = max (w .start .0) image }) refl)) ∙ by Up (raised w image) i j) (by Down w i j)
+
+      go : (t : Bool) → hitOf (runAt runs) (cond t (bottomUp image (eligible w runs)) (highest (eligible w runs) top))
+          ≡ cond t (orElse (walked Up s (raised w image)) (walked Down s w)) (walked Down s w)
+      go true = up
+      go false = by Down w i j
 
   -- ---- the calls
 
   set-computed : (limit direction : ℕ) → leb direction 1 ≡ true → answerOf (toSet limit direction) (blockBytes current s) ≡ spelled (compute (toSet limit direction) s)
   unfolding answerOf compute set
   set-computed limit direction e = rw (isGood, e, says)
+
+  image-computed : (image : ℕ) → answerOf (toSetImageEnd image) (blockBytes current s) ≡ spelled (compute (toSetImageEnd image) s)
+  unfolding answerOf compute setImageEnd
+  image-computed image = rw (isGood, says)
 
   command-computed : (c : Command) → legalVerb (c .verb) ≡ true → c .base ≤ 18446744073709551615
       → answerOf (toCommand c) (blockBytes current s) ≡ spelled (compute (toCommand c) s)
@@ -232,6 +269,7 @@ pub call-computed : (c : Call) (s : Contents) → Spellable current s → comput
 unfolding computable
 call-computed toFresh s sp e = absurd (zero-not-one cc)
 call-computed (toSet limit direction) s sp e = set-computed s sp limit direction e
+call-computed (toSetImageEnd image) s sp e = image-computed s sp image
 call-computed (toCommand c) s sp e =
     let p = both (legalVerb (c .verb)) (leb (c .base) 18446744073709551615) e in
     command-computed s sp c (p .0) (leb-true (c .base) 18446744073709551615 (p .1))

@@ -9,11 +9,11 @@ use lib.ListN.{length}
 use borrow.Author.Tests.{ne-eqb}
 use Rattle.block.specs.Block.{editionOne, current, blockLength, good}
 use Rattle.block.proofs.Blocks.{good-length, bad-length}
-use Rattle.tables.specs.Commands.{commandOutcome, fresh, set, trim}
+use Rattle.tables.specs.Commands.{commandOutcome, fresh, set, setImageEnd, trim}
 use Rattle.convert.specs.Convert.{goodOne, convert}
 use Rattle.intake.specs.E820.{intakeE820}
 use Rattle.search.specs.Answers.{Answer, asking, find, allocate, nextFree}
-use Rattle.memblock.specs.Calls.{Call, toFresh, toSet, toCommand, toTrim, toFind, toNextFree, toAllocate, toIntake, toConvert, answerOf}
+use Rattle.memblock.specs.Calls.{Call, toFresh, toSet, toSetImageEnd, toCommand, toTrim, toFind, toNextFree, toAllocate, toIntake, toConvert, answerOf}
 use Rattle.memblock.specs.Editions.{slipFits, EditionSentence}
 
 -- the checks of a call with a slip
@@ -21,7 +21,7 @@ asked-one : (b slip : List ℕ) (x : Answer) (n : ℕ) (g : Bool) → g ≡ fals
 asked-one b slip x n g e s = rw (e, s)
 
 other-length : (c : Call) (b : List ℕ) → (length b ≡ blockLength current → ⊥) → slipFits c ≡ true → answerOf c b .number ≡ 1
-unfolding answerOf fresh set commandOutcome trim find nextFree allocate intakeE820 convert
+unfolding answerOf fresh set setImageEnd commandOutcome trim find nextFree allocate intakeE820 convert
 other-length c b d s = go c s
   where
     l : eqb (length b) (blockLength current) ≡ false
@@ -33,6 +33,7 @@ other-length c b d s = go c s
     go : (c : Call) → slipFits c ≡ true → answerOf c b .number ≡ 1
     go toFresh s = rw l
     go (toSet limit direction) s = rw bad
+    go (toSetImageEnd image) s = rw bad
     go (toCommand c) s = rw bad
     go (toTrim align) s = rw bad
     go (toFind q slip) s = asked-one b slip _ _ (good current b) bad s

@@ -12,11 +12,11 @@ use Rattle.regions.specs.declared.Kind.the-variants.{Taken}
 use Rattle.regions.specs.declared.Change.the-variants.{Fill}
 use Rattle.block.specs.Block.{current, capacity, blockLength, contents, good}
 use Rattle.tables.specs.declared.commands.Verb.the-variants.{Reserve}
-use Rattle.tables.specs.Commands.{Outcome, unless, doneWith, store, changeRange, tag, Command, command, table, legalVerb, commandOutcome, fresh, set, trim}
+use Rattle.tables.specs.Commands.{Outcome, unless, doneWith, store, changeRange, tag, Command, command, table, legalVerb, commandOutcome, fresh, set, setImageEnd, trim}
 use Rattle.convert.specs.Convert.{goodOne, convert}
 use Rattle.tables.specs.DemandTwo.{finished}
 use Rattle.convert.proofs.Converting.{convert-sentence}
-use Rattle.tables.proofs.Good.{was-good, command-good, trim-good, set-good, fresh-good}
+use Rattle.tables.proofs.Good.{was-good, command-good, trim-good, set-good, image-good, fresh-good}
 use Rattle.intake.specs.Turns.{inTurn, wholly}
 use Rattle.intake.specs.E820.{entries, readable, entrySteps, intakeE820}
 use Rattle.intake.proofs.Good.{intake-good}
@@ -25,7 +25,7 @@ use Rattle.runs.specs.declared.fit.Place.{Place}
 use Rattle.runs.specs.declared.fit.Place.the-variants.{Here, Nowhere}
 use Rattle.search.specs.Search.{foundPlace, nextPlace}
 use Rattle.search.specs.Answers.{Answer, answer, refuse, unless as unlessAnswer, slipOf, withSlip, asking, askable, refusal, checkNumber, nextNumber, placeAnswer, find, allocate, allocateAnswer, reserved, nextFree}
-use Rattle.memblock.specs.Calls.{Call, toFresh, toSet, toCommand, toTrim, toFind, toNextFree, toAllocate, toIntake, toConvert, plain, answerOf}
+use Rattle.memblock.specs.Calls.{Call, toFresh, toSet, toSetImageEnd, toCommand, toTrim, toFind, toNextFree, toAllocate, toIntake, toConvert, plain, answerOf}
 use Rattle.memblock.specs.Refusals.{slipLent, RefusalSentence, DoneSentence}
 
 -- ---- calls without a slip
@@ -66,6 +66,11 @@ module _ (b : List ℕ) where
         keeps = two-keep b _ (good current b) (leb direction 1) 1 7;
         isGood = λ h. set-good b (was-good (good current b) b _ h) limit direction;
       }
+
+  image-fair : (image : ℕ) → FairOutcome b (setImageEnd current image b)
+  unfolding setImageEnd
+  image-fair image =
+      record { keeps = one-keeps b _ (good current b) 1; isGood = λ h. image-good b (was-good (good current b) b _ h) image }
 
   command-fair : (c : Command) → FairOutcome b (commandOutcome current c b)
   unfolding commandOutcome store
@@ -192,6 +197,7 @@ fair : (c : Call) (b : List ℕ) → Fair b (slipLent c) (answerOf c b)
 unfolding answerOf
 fair toFresh b = plain-fair b _ (fresh-fair b)
 fair (toSet limit direction) b = plain-fair b _ (set-fair b limit direction)
+fair (toSetImageEnd image) b = plain-fair b _ (image-fair b image)
 fair (toCommand c) b = plain-fair b _ (command-fair b c)
 fair (toTrim align) b = plain-fair b _ (trim-fair b align)
 fair (toFind q slip) b = find-fair b slip q

@@ -1,6 +1,6 @@
 -- Agreed commands leave each address as document 01 lists it, and only one block ends so. Assumes nothing.
 use Prim.Native.Nat.{ℕ}
-use mathlib.Core.Path.{_≡_, refl, sym, ap, _∙_}
+use mathlib.Core.Path.{_≡_, refl, sym, ap, ap₂, _∙_}
 use mathlib.Core.Bool.{true, false}
 use mathlib.Core.List.{List, [], _∷_, List·Memᴰ, List·Memᴰ·head, List·Memᴰ·tail, List·Memᴰ·not-nil}
 use mathlib.Core.Logic.{_⊎_, inl, inr}
@@ -10,13 +10,14 @@ use Rattle.regions.specs.declared.Kind.{Kind}
 use Rattle.regions.specs.declared.Kind.the-variants.{Memory, Taken}
 use Rattle.regions.specs.declared.State.{State}
 use Rattle.regions.specs.Meaning.{at}
-use Rattle.regions.specs.Bytes.{number}
+use Rattle.regions.specs.Bytes.{bytes}
 use Rattle.regions.proofs.Good.{good-legal}
 use Rattle.regions.proofs.Legal.{legalState, legal-at}
-use Rattle.block.specs.Block.{current, settings, listOf, settingsBytes, contents, good}
+use Rattle.block.specs.declared.Settings.{Settings}
+use Rattle.block.specs.Block.{current, listOf, settingsBytes, contents, good}
 use Rattle.block.proofs.Blocks.{lists-ok, good-contents}
 use Rattle.block.proofs.Reading.{same-block}
-use Rattle.block.proofs.Fields.{good-settings, good-spare, settings-there}
+use Rattle.block.proofs.Fields.{good-settings, good-image, settingsAt, settings-there}
 use Rattle.tables.specs.Commands.{Command, table}
 use Rattle.memblock.specs.Lists.{covers, Agreed, Stands, Ends}
 use Rattle.memblock.proofs.Steps.{sameKind, works}
@@ -80,7 +81,7 @@ module _ (ds : List Command) (w : Agreed ds) (b e : List ℕ) (g : good current 
         isGood = r .isGood;
         stands = ran-stands;
         settings = good-settings current e (r .isGood) ∙ ap settingsBytes (r .settings) ∙ sym (good-settings current b g);
-        spare = good-spare current e (r .isGood) ∙ sym (good-spare current b g);
+        spare = good-image current e (r .isGood) ∙ ap (λ (s : Settings). bytes 8 (s .image .0)) (r .settings) ∙ sym (good-image current b g);
       }
 
 -- ---- one end only
@@ -118,7 +119,8 @@ stands-same ds k a start v w p q = go (some-or-none k a ds)
 pub ends-same : (b : List ℕ) (ds : List Command) (e f : List ℕ) → Ends b ds e → Ends b ds f → e ≡ f
 ends-same b ds e f p q =
     let s : take 16 (drop 40 e) ≡ take 16 (drop 40 f) = p .settings ∙ sym (q .settings) in
+    let t : take 8 (drop 72 e) ≡ take 8 (drop 72 f) = p .spare ∙ sym (q .spare) in
     let at-same : (k : Kind) (a : ℕ) → at (listOf (contents current e) k) a ≡ at (listOf (contents current f) k) a =
     λ k a. stands-same ds k a (at (listOf (contents current b) k) a) _ _ (p .stands k a) (q .stands k a) in
     same-block current e f (p .isGood) (q .isGood) (λ a l. at-same Memory a) (λ a l. at-same Taken a)
-    (settings-there current e (p .isGood) ∙ ap (λ (l : List ℕ). settings (number 8 l) (number 4 (drop 8 l))) s ∙ sym (settings-there current f (q .isGood)))
+    (settings-there current e (p .isGood) ∙ ap₂ settingsAt s t ∙ sym (settings-there current f (q .isGood)))

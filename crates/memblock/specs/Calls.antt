@@ -3,7 +3,7 @@
 use Prim.Native.Nat.{ℕ}
 use mathlib.Core.List.{List, [], _∷_}
 use Rattle.block.specs.Block.{current}
-use Rattle.tables.specs.Commands.{Outcome, fresh, set, Command, commandOutcome, trim}
+use Rattle.tables.specs.Commands.{Outcome, fresh, set, setImageEnd, Command, commandOutcome, trim}
 use Rattle.convert.specs.Convert.{convert}
 use Rattle.intake.specs.E820.{intakeE820}
 use Rattle.runs.specs.declared.Query.{Query}
@@ -17,6 +17,7 @@ outcomeOf c b = commandOutcome current c b
 pub data Call : Type 0 where
   toFresh : Call
   toSet : (limit direction : ℕ) → Call
+  toSetImageEnd : (image : ℕ) → Call
   toCommand : Command → Call
   toTrim : (align : ℕ) → Call
   toFind : Query → (slip : List ℕ) → Call
@@ -33,6 +34,7 @@ plain o = answer (o .number) (o .block) []
 unfoldable pub answerOf : Call → List ℕ → Answer
 answerOf toFresh b = plain (fresh current b)
 answerOf (toSet limit direction) b = plain (set current limit direction b)
+answerOf (toSetImageEnd image) b = plain (setImageEnd current image b)
 answerOf (toCommand c) b = plain (outcomeOf c b)
 answerOf (toTrim align) b = plain (trim current align b)
 answerOf (toFind q slip) b = find current q b slip

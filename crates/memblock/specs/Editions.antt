@@ -6,12 +6,13 @@ use mathlib.Core.List.{List}
 use lib.Dec.{eqb}
 use lib.ListN.{length}
 use Rattle.block.specs.Block.{current, blockLength, editionOne, good}
-use Rattle.memblock.specs.Calls.{Call, toFresh, toSet, toCommand, toTrim, toFind, toNextFree, toAllocate, toIntake, toConvert, answerOf}
+use Rattle.memblock.specs.Calls.{Call, toFresh, toSet, toSetImageEnd, toCommand, toTrim, toFind, toNextFree, toAllocate, toIntake, toConvert, answerOf}
 
 -- the call takes no slip, or is lent one of 16 bytes: else it gets 8, which is checked first
 abbrev pub slipFits : Call → Bool
 slipFits toFresh = true
 slipFits (toSet limit direction) = true
+slipFits (toSetImageEnd image) = true
 slipFits (toCommand c) = true
 slipFits (toTrim align) = true
 slipFits (toFind q slip) = eqb (length slip) 16

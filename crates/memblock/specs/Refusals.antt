@@ -5,12 +5,13 @@ use mathlib.Core.Bool.{true}
 use mathlib.Core.List.{List, []}
 use lib.ListN.{length, replicate}
 use Rattle.block.specs.Block.{current, good}
-use Rattle.memblock.specs.Calls.{Call, toFresh, toSet, toCommand, toTrim, toFind, toNextFree, toAllocate, toIntake, toConvert, answerOf}
+use Rattle.memblock.specs.Calls.{Call, toFresh, toSet, toSetImageEnd, toCommand, toTrim, toFind, toNextFree, toAllocate, toIntake, toConvert, answerOf}
 
 -- the slip that is lent to a call; a call that takes none has one of no bytes
 abbrev pub slipLent : Call → List ℕ
 slipLent toFresh = []
 slipLent (toSet limit direction) = []
+slipLent (toSetImageEnd image) = []
 slipLent (toCommand c) = []
 slipLent (toTrim align) = []
 slipLent (toFind q slip) = slip

@@ -12,7 +12,7 @@ ghost use Rattle.runs.specs.Eligible.{query};
 ghost use Rattle.search.specs.Answers.{answer};
 ghost use Rattle.tables.specs.declared.commands.Verb.the-variants.{Add, Remove, Mark, Unmark, Reserve, Free};
 ghost use Rattle.tables.specs.Commands.{tag, command};
-ghost use Rattle.memblock.specs.Calls.{toFresh, toSet, toCommand, toTrim, toFind, toNextFree, toAllocate, toIntake, toConvert, answerOf};
+ghost use Rattle.memblock.specs.Calls.{toFresh, toSet, toSetImageEnd, toCommand, toTrim, toFind, toNextFree, toAllocate, toIntake, toConvert, answerOf};
 
 // Writes a fresh block over any 15,440 bytes.
 #[no_mangle]
@@ -28,6 +28,14 @@ pub extern "C" fn memblock_set(block: &mut [u8], limit: u64, direction: u32) -> 
     ensures { λ r. ⌜ answer r (now (block .exit)) [] ≡ answerOf (toSet limit direction) (now (block .entry)) ⌝ }
 {
     tables::commands::set(block, Address(limit), direction)
+}
+
+// Stores the image end (0: none), from where a bottom-up search goes up first.
+#[no_mangle]
+pub extern "C" fn memblock_set_image_end(block: &mut [u8], end: u64) -> u32
+    ensures { λ r. ⌜ answer r (now (block .exit)) [] ≡ answerOf (toSetImageEnd end) (now (block .entry)) ⌝ }
+{
+    tables::commands::set_image_end(block, Address(end))
 }
 
 // Gives the tag to each address of the range not yet in memory.

@@ -10,7 +10,7 @@ use lib.Dec.{leb, eqb}
 use lib.ListN.{length}
 use borrow.Author.Tests.{eqb-true, eqb-false}
 use Rattle.address.specs.Numbers.{powerOfTwo}
-use Rattle.address.proofs.Tests.{clash}
+use Rattle.address.proofs.Tests.{clash, le-or-lt}
 use Rattle.address.specs.declared.Address.{Address}
 use Rattle.regions.specs.declared.Kind.{Kind}
 use Rattle.regions.specs.declared.Kind.the-variants.{Memory, Taken}
@@ -23,6 +23,7 @@ use Rattle.regions.specs.Bytes.{number}
 use Rattle.regions.proofs.Rises.{Canonical}
 use Rattle.regions.proofs.Good.{good-rises}
 use Rattle.block.specs.declared.Layout.{Layout}
+use Rattle.block.specs.declared.Settings.{Settings}
 use Rattle.block.specs.Block.{capacity, withList, blockBytes, contents, good}
 use Rattle.block.proofs.Blocks.{lists-ok, good-contents}
 use Rattle.tables.specs.Commands.{Outcome, outcome, store, tag, changeRange}
@@ -34,12 +35,17 @@ use Rattle.runs.specs.Places.{hitOf, placeOf}
 use Rattle.runs.proofs.Extremes.{lowest-gives}
 use Rattle.search.specs.Search.{window, runsOf, found, foundPlace, freeFrom, lowestFree, nextPlace}
 use Rattle.search.specs.Answers.{Answer, answer, refuse, slipOf, askable, checkNumber, nextNumber, asking, placeAnswer, find, reserved, allocateAnswer, allocate, nextFree}
-use Rattle.search.specs.DemandTwo.{Eligible, FreeFrom, Best, Passed, Searched, Beyond, OrFull, LooksEligible, FindSentence, AllocateSentence, NextFreeSentence}
+use Rattle.search.specs.DemandTwo.{Eligible, FreeFrom, Lowest, Highest, AboveImage, ByDirection, Passed, Searched, OrFull, LooksEligible, FindSentence, AllocateSentence, NextFreeSentence}
 use Rattle.search.proofs.Answering.{number-ready, slip-first, fine}
 use Rattle.search.proofs.Eligible.{passes-eligible, eligible-ends, eligible-passes, passes-free, free-ends, free-passes}
-use Rattle.search.proofs.Found.{found-gives}
+use Rattle.search.proofs.Found.{Beyond, found-gives}
 
 -- ---- any search
+
+-- E holds at x, and at no number beyond x
+record Best (E : ℕ → Type 0) (beyond : ℕ → ℕ → Type 0) (x : ℕ) : Type 0 where
+  holds : E x
+  none-beyond : (y : ℕ) → E y → beyond y x → ⊥
 
 -- past the checks: nothing is there, and the number is 5; or something is, the number is another, and where it is 0 the slip names the best
 record Missed (E : ℕ → Type 0) (a : Answer) : Type 0 where
@@ -69,8 +75,9 @@ module _ (n : ℕ) (b slip : List ℕ) (a : Answer) where
   pub through : Passed n slip → asking n b slip a ≡ a
   through p = sym (fine n b slip (p .of-16) (p .fine) a)
 
-  module _ (E : ℕ → Type 0) (beyond : ℕ → ℕ → Type 0) (done : ℕ → Type 0) (h : n ≤ 4) (answered : Passed n slip → Missed E a ⊎ Met E beyond done a) where
-    searched : Searched (Passed n slip) E beyond done (asking n b slip a)
+  module _ (E : ℕ → Type 0) (beyond : ℕ → ℕ → Type 0) (right : ℕ → Type 0) (best-right : (x : ℕ) → Best E beyond x → right x) (done : ℕ → Type 0) (h : n ≤ 4)
+      (answered : Passed n slip → Missed E a ⊎ Met E beyond done a) where
+    searched : Searched (Passed n slip) E right done (asking n b slip a)
     searched = record { five = five; none = none-given; some = some-given; given = given }
       where
         is : Passed n slip → asking n b slip a .number ≡ a .number
@@ -97,14 +104,14 @@ module _ (n : ℕ) (b slip : List ℕ) (a : Answer) where
             go (inl m) = absurd (m .nothing x e)
             go (inr m) = subst done (sym (is p)) (m .so)
 
-        given : asking n b slip a .number ≡ 0 → Best E beyond (number 8 (asking n b slip a .slip))
+        given : asking n b slip a .number ≡ 0 → right (number 8 (asking n b slip a .slip))
         given e = let p = passed h 0 (inl refl) e in go p (answered p)
           where
-            go : Passed n slip → Missed E a ⊎ Met E beyond done a → Best E beyond (number 8 (asking n b slip a .slip))
+            go : Passed n slip → Missed E a ⊎ Met E beyond done a → right (number 8 (asking n b slip a .slip))
             go p (inl m) = absurd (omega (arith, sym (m .five) ∙ sym (is p) ∙ e))
             go p (inr m) =
                 let k : number 8 (asking n b slip a .slip) ≡ m .at = ap (λ (x : Answer). number 8 (x .slip)) (through p) ∙ m .named (sym (is p) ∙ e) in
-                subst (Best E beyond) (sym k) (m .best)
+                subst right (sym k) (best-right (m .at) (m .best))
 
 -- what a search answers for each case of Place: 5, or another number, and where that is 0 the slip's first number is the address
 pub record Answers (done : ℕ → Type 0) (answers : Place → Answer) : Type 0 where
@@ -129,6 +136,44 @@ module _ (E : ℕ → Type 0) (test : ℕ → Bool) (passes : (x : ℕ) → test
 pub memory-rises : (L : Layout) (b : List ℕ) → good L b ≡ true → Canonical top (contents L b .memory)
 memory-rises L b g = good-rises Memory (contents L b .memory) (lists-ok L (contents L b) (good-contents L b g) Memory)
 
+-- ---- the best by each search's order
+
+-- what is not below is at or above
+at-most : (a b : ℕ) → (b < a → ⊥) → a ≤ b
+at-most a b h = go (le-or-lt a b)
+  where
+    go : (a ≤ b) ⊎ (b < a) → a ≤ b
+    go (inl l) = l
+    go (inr l) = absurd (h l)
+
+-- below it none is left
+best-lowest : (E : ℕ → Type 0) (x : ℕ) → Best E (λ y x. y < x) x → Lowest E x
+best-lowest E x b = record { holds = b .holds; least = λ y e. at-most x y (b .none-beyond y e) }
+
+module _ (s : Settings) (E : ℕ → Type 0) (x : ℕ) (b : Best E (Beyond s) x) where
+  -- top-down above it none is left
+  down-highest : s .direction ≡ 0 → Highest E x
+  down-highest d = record { holds = b .holds; most = λ y e. at-most y x (λ l. b .none-beyond y e (inr (d, l))) }
+
+  -- bottom-up, where one is at or above the image end, so is it, and none such is left below it
+  up-lowest : s .direction ≡ 1 → (y : ℕ) → AboveImage s E y → Lowest (AboveImage s E) x
+  up-lowest d y h =
+      record {
+        holds = (b .holds, at-most (s .image .0) x (λ l. b .none-beyond y (h .0) (inl (d, inl (h .1, inl l)))));
+        least = λ z i. at-most x z (λ l. b .none-beyond z (i .0) (inl (d, inl (i .1, inr l))));
+      }
+
+  -- and where none is, none is left above it
+  other-highest : s .direction ≡ 1 → ((y : ℕ) → AboveImage s E y → ⊥) → Highest E x
+  other-highest d n = record { holds = b .holds; most = λ y e. at-most y x (λ l. b .none-beyond y e (inl (d, inr (below y e (le-or-lt (s .image .0) y), l)))) }
+    where
+      below : (y : ℕ) → E y → (s .image .0 ≤ y) ⊎ (y < s .image .0) → y < s .image .0
+      below y e (inl k) = absurd (n y (e, k))
+      below y e (inr k) = k
+
+best-by-direction : (s : Settings) (E : ℕ → Type 0) (x : ℕ) → Best E (Beyond s) x → ByDirection s E x
+best-by-direction s E x b = record { top-down = down-highest s E x b; bottom-up = up-lowest s E x b; other-way = other-highest s E x b }
+
 -- ---- find and allocate
 
 pub check-low : (L : Layout) (q : Query) (b : List ℕ) → checkNumber L q b ≤ 4
@@ -144,19 +189,20 @@ check-low L q b = go (good L b) (askable (q .node) (q .wish)) (powerOfTwo (q .al
 module _ (L : Layout) (q : Query) (b slip : List ℕ) (done : ℕ → Type 0) (answers : Place → Answer) (k : Answers done answers) where
   found-answered : Passed (checkNumber L q b) slip
       → Missed (Eligible (contents L b) q) (answers (foundPlace (contents L b) q))
-      ⊎ Met (Eligible (contents L b) q) (Beyond (contents L b .settings .direction)) done (answers (foundPlace (contents L b) q))
+      ⊎ Met (Eligible (contents L b) q) (Beyond (contents L b .settings)) done (answers (foundPlace (contents L b) q))
   unfolding foundPlace
   found-answered p =
       let s = contents L b in
       let r = number-ready L b q (p .fine) in
       let w = memory-rises L b (r .0 .0) in
       answered (Eligible s q) (eligible (window (s .settings .limit .0) q) (runsOf s)) (passes-eligible s q (r .1))
-      (λ x e. (eligible-passes s q (r .1) x w e, omega (arith, eligible-ends s q (r .1) x w e, r .1))) (Beyond (s .settings .direction)) done answers k (runAt (runsOf s)) (found s q)
+      (λ x e. (eligible-passes s q (r .1) x w e, omega (arith, eligible-ends s q (r .1) x w e, r .1))) (Beyond (s .settings)) done answers k (runAt (runsOf s)) (found s q)
       (found-gives s q)
 
   found-searched : LooksEligible L q b slip done (asking (checkNumber L q b) b slip (answers (foundPlace (contents L b) q)))
   found-searched =
-      searched (checkNumber L q b) b slip (answers (foundPlace (contents L b) q)) (Eligible (contents L b) q) (Beyond (contents L b .settings .direction)) done
+      searched (checkNumber L q b) b slip (answers (foundPlace (contents L b) q)) (Eligible (contents L b) q) (Beyond (contents L b .settings))
+      (ByDirection (contents L b .settings) (Eligible (contents L b) q)) (best-by-direction (contents L b .settings) (Eligible (contents L b) q)) done
       (check-low L q b) found-answered
 
 -- so find and next free answer
@@ -221,7 +267,7 @@ unfolding nextFree nextPlace lowestFree
 next-free-sentence L p node wish b slip =
     let s = contents L b in
     let a = placeAnswer b (nextPlace s p node wish) in
-    searched (nextNumber L node wish b) b slip a (FreeFrom s p node wish) (λ y x. y < x) (λ n. n ≡ 0) (next-low (good L b) (askable node wish))
+    searched (nextNumber L node wish b) b slip a (FreeFrom s p node wish) (λ y x. y < x) (Lowest (FreeFrom s p node wish)) (best-lowest (FreeFrom s p node wish)) (λ n. n ≡ 0) (next-low (good L b) (askable node wish))
     (λ d. let w = memory-rises L b (next-checked (good L b) (askable node wish) (d .fine)) in
     answered (FreeFrom s p node wish) (freeFrom p node wish (runsOf s)) (passes-free s p node wish) (λ x e. (free-passes s p node wish x w e, free-ends s p node wish x w e)) (λ y x. y < x) (λ n. n ≡ 0)
     (placeAnswer b) (place-answers b) (runAt (runsOf s)) (lowestFree s p node wish) (lowest-gives (freeFrom p node wish (runsOf s)) top))

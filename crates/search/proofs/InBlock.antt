@@ -1,6 +1,6 @@
 -- Whole blocks: a good block's two parts can be searched, and what is found in them is what the definitions say of the block. Assumes nothing.
 use Prim.Native.Nat.{ℕ, _+_, _*_, _-_, _≤_, _<_, min, max}
-use mathlib.Core.Path.{_≡_, refl}
+use mathlib.Core.Path.{_≡_, refl, _∙_}
 use mathlib.Core.Bool.{Bool, true, false, _&&_}
 use mathlib.Core.List.{List}
 use native.Mathlib.Omega.{arith}
@@ -28,13 +28,10 @@ use Rattle.runs.specs.Eligible.{wanted, eligible}
 use Rattle.runs.specs.Places.{placeOf}
 use Rattle.runs.specs.Steps.{Searchable, firstIn}
 use Rattle.search.specs.Search.{boundedEnd, window, windowEnd, runsOf, found, foundPlace, freeFrom, lowestFree, nextPlace}
-use Rattle.search.specs.Steps.{Ready, partsOf, firstOf, nextQuery}
+use Rattle.search.specs.Steps.{Ready, withWindow, partsOf, firstOf, bottomUpOf, nextQuery}
 use Rattle.runs.proofs.Stretches.{lowest-agree}
 
 -- ---- the window
-
-abbrev between : Query → Address → Address → Query
-between q start end = record { size = q .size; align = q .align; start = start; end = end; node = q .node; wish = q .wish }
 
 module _ (limit end : ℕ) where
   pub bounded-limit : end ≡ 0 → limit ≡ boundedEnd limit end
@@ -44,10 +41,10 @@ module _ (limit end : ℕ) where
   bounded-named z e h = rw (ne-eqb end 0 z) h
 
 pub window-is : (limit : Address) (q : Query) (start bound end : Address) → start .0 ≡ max (q .start .0) 4096 → bound .0 ≡ boundedEnd (limit .0) (q .end .0)
-    → end .0 ≡ max (bound .0) (start .0) → between q start end ≡ window (limit .0) q
-window-is limit q start bound end s b e =
+    → end .0 ≡ max (bound .0) (start .0) → (w : Query) → w ≡ withWindow q start end → w ≡ window (limit .0) q
+window-is limit q start bound end s b e w is =
     let f : end .0 ≡ windowEnd (limit .0) (q .start .0) (q .end .0) = rw (← b, ← s) e in
-    λ i. between q (record { 0 = s i }) (record { 0 = f i })
+    is ∙ (λ i. withWindow q (record { 0 = s i }) (record { 0 = f i }))
 
 -- ---- the parts of a good block
 
@@ -115,20 +112,22 @@ module _ (b : List ℕ) (q : Query) (h : Header) (r : h ≡ readHeader b) (w : Q
   unfolding contents
   limit-is = rw r at e
 
--- the way of a direction: upwards 1, downwards any other
-abbrev Goes : Way → ℕ → Type 0
-Goes Up d = d ≡ 1
-Goes Down d = d ≡ 1 → ⊥
+pub ready-above : (b : List ℕ) (w : Query) (start end : Address) (u : Query) → u ≡ withWindow w start end → Ready b w → Ready b u
+ready-above b w start end u e p = rw e (record { good = p .good; size = p .size; align = p .align })
 
-pub find-first : (v : Way) (b : List ℕ) (q : Query) (h : Header) → h ≡ readHeader b → (w : Query) → w ≡ window (h .settings .limit .0) q → Goes v (h .settings .direction)
-    → (f : Place) → f ≡ firstOf v (contents current b) w → f ≡ foundPlace (contents current b) q
-unfolding found foundPlace contents firstIn
-find-first Up b q h r w e d f i =
-    let k : readHeader b .settings .direction ≡ 1 = rw r at d in
-    rw (eq-eqb (readHeader b .settings .direction) 1 k, ← limit-is b q h r w e) i
-find-first Down b q h r w e d f i =
-    let k : readHeader b .settings .direction ≡ 1 → ⊥ = rw r at d in
-    rw (ne-eqb (readHeader b .settings .direction) 1 k, ← limit-is b q h r w e) i
+module _ (b : List ℕ) (q : Query) (h : Header) (r : h ≡ readHeader b) (w : Query) (e : w ≡ window (h .settings .limit .0) q) where
+  pub find-up : h .settings .direction ≡ 1 → (f : Place) → f ≡ bottomUpOf (contents current b) w (h .settings .image .0) → f ≡ foundPlace (contents current b) q
+  unfolding found foundPlace contents
+  find-up d f i =
+      let k : readHeader b .settings .direction ≡ 1 = rw r at d in
+      let j : f ≡ bottomUpOf (contents current b) w (readHeader b .settings .image .0) = rw r at i in
+      rw (eq-eqb (readHeader b .settings .direction) 1 k, ← limit-is b q h r w e) j
+
+  pub find-down : (h .settings .direction ≡ 1 → ⊥) → (f : Place) → f ≡ firstOf Down (contents current b) w → f ≡ foundPlace (contents current b) q
+  unfolding found foundPlace contents firstIn
+  find-down d f i =
+      let k : readHeader b .settings .direction ≡ 1 → ⊥ = rw r at d in
+      rw (ne-eqb (readHeader b .settings .direction) 1 k, ← limit-is b q h r w e) i
 
 -- ---- next free
 

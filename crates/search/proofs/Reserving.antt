@@ -22,10 +22,10 @@ use Rattle.runs.specs.Eligible.{eligible, Gives}
 use Rattle.runs.specs.Places.{hitOf, placeOf}
 use Rattle.search.specs.Search.{window, runsOf, found, foundPlace}
 use Rattle.search.specs.Answers.{Answer, answer, refuse, slipOf, checkNumber, placeAnswer, find, allocate, allocateAnswer, reserved}
-use Rattle.search.specs.DemandTwo.{Beyond, ReserveSentence}
+use Rattle.search.specs.DemandTwo.{ReserveSentence}
 use Rattle.search.proofs.Answering.{number-ready, slip-first}
 use Rattle.search.proofs.Allocating.{store-leaves}
-use Rattle.search.proofs.Found.{found-gives}
+use Rattle.search.proofs.Found.{Beyond, found-gives}
 
 -- f is what find answers, a what allocate answers, o what reserve does
 record Then (f a : Answer) (o : Outcome) : Type 0 where
@@ -82,7 +82,7 @@ reserve-sentence L q b slip =
         ap (λ (y : ℕ). commandOutcome L (command Reserve y (q .size .0)) b) (slip-first x (end x) l)
         ∙ reserve-is L q b (number-ready L b q (eqb-true n 0 e) .0 .0) x
 
-    go : (w t : Bool) → eqb n 0 ≡ t → (o : Option ℕ) → Gives (eligible (window (contents L b .settings .limit .0) q) (runsOf (contents L b))) (Beyond (contents L b .settings .direction)) top o
+    go : (w t : Bool) → eqb n 0 ≡ t → (o : Option ℕ) → Gives (eligible (window (contents L b .settings .limit .0) q) (runsOf (contents L b))) (Beyond (contents L b .settings)) top o
         → Then (finds w t o) (takes w t o) (commandOutcome L (command Reserve (number 8 (finds w t o .slip)) (q .size .0)) b)
     go false t e o g = alike (answer 8 b slip) _ (λ z. omega (arith, z))
     go true false e o g = alike (refuse n b) _ (eqb-false n 0 e)

@@ -29,12 +29,12 @@ use Rattle.runs.proofs.Eligible.{eligible-lies}
 use Rattle.runs.proofs.Extremes.{lowest-gives}
 use Rattle.search.specs.Search.{window, runsOf, found, foundPlace, freeFrom, lowestFree, nextPlace}
 use Rattle.search.specs.Answers.{Answer, slipOf, askable, checkNumber, nextNumber, asking, placeAnswer, find, allocate, nextFree}
-use Rattle.search.specs.DemandTwo.{freeIn, Passed, Beyond, LooksThenReserves}
+use Rattle.search.specs.DemandTwo.{freeIn, Passed, LooksThenReserves}
 use Rattle.search.specs.RunEnd.{RunTo, NamesRun, FindRunSentence, AllocateRunSentence, NextFreeRunSentence}
 use Rattle.search.proofs.Answering.{number-ready, slip-first, slip-second}
 use Rattle.search.proofs.DemandTwo.{passed, through, memory-rises, check-low, next-low, next-checked}
 use Rattle.search.proofs.Eligible.{free-below}
-use Rattle.search.proofs.Found.{found-gives}
+use Rattle.search.proofs.Found.{Beyond, found-gives}
 use Rattle.search.proofs.Reserving.{reserve-sentence}
 
 -- ---- the run of an address that lies in one
@@ -95,7 +95,7 @@ unfolding find foundPlace
 find-run-sentence L q b slip e =
     let s = contents L b in
     let w : Query = window (s .settings .limit .0) q in
-    names (checkNumber L q b) b slip (check-low L q b) s (asks q) (q .size .0) (eligible w (runsOf s)) (Beyond (s .settings .direction))
+    names (checkNumber L q b) b slip (check-low L q b) s (asks q) (q .size .0) (eligible w (runsOf s)) (Beyond (s .settings))
     (λ d. let r = number-ready L b q (d .fine) in (memory-rises L b (r .0 .0), r .1)) (λ x t. eligible-lies w (runsOf s) x t .run) (found s q) (found-gives s q) e
 
 pub next-free-run-sentence : NextFreeRunSentence

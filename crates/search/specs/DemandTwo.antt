@@ -1,6 +1,6 @@
 -- Demand 2's sentence on the searches, of every answer: "no address" exactly when no eligible address exists, otherwise the lowest or the highest, by
--- direction. Assumes nothing.
-use Prim.Native.Nat.{ℕ, _+_, _%_, _≤_, _<_}
+-- direction; as E7 amends it, bottom-up the lowest at or above the image end first. Assumes nothing.
+use Prim.Native.Nat.{ℕ, _+_, _%_, _≤_}
 use mathlib.Core.Path.{_≡_}
 use mathlib.Core.Bool.{true}
 use mathlib.Core.List.{List}
@@ -13,6 +13,7 @@ use Rattle.regions.specs.Free.{freeMemory}
 use Rattle.regions.specs.Runs.{OneTag}
 use Rattle.regions.specs.Bytes.{number}
 use Rattle.block.specs.declared.Layout.{Layout}
+use Rattle.block.specs.declared.Settings.{Settings}
 use Rattle.block.specs.Block.{Contents, contents}
 use Rattle.tables.specs.declared.commands.Verb.the-variants.{Reserve}
 use Rattle.tables.specs.Commands.{Outcome, command, commandOutcome}
@@ -44,10 +45,24 @@ pub record FreeFrom (s : Contents) (p node wish a : ℕ) : Type 0 where
 
 -- ---- the sentence
 
--- E holds at x, and at no number beyond x
-pub record Best (E : ℕ → Type 0) (beyond : ℕ → ℕ → Type 0) (x : ℕ) : Type 0 where
+-- E holds at x, and at no lower number; at no higher one
+pub record Lowest (E : ℕ → Type 0) (x : ℕ) : Type 0 where
   pub holds : E x
-  pub none-beyond : (y : ℕ) → E y → beyond y x → ⊥
+  pub least : (y : ℕ) → E y → x ≤ y
+
+pub record Highest (E : ℕ → Type 0) (x : ℕ) : Type 0 where
+  pub holds : E x
+  pub most : (y : ℕ) → E y → y ≤ x
+
+-- of the addresses at which E holds, those at or above the image end
+abbrev pub AboveImage : Settings → (ℕ → Type 0) → ℕ → Type 0
+AboveImage s E a = E a × (s .image .0 ≤ a)
+
+-- x is what a search gives: top-down (direction 0) the highest; bottom-up (1), by E7, the lowest at or above the image end if there is one, else the highest
+pub record ByDirection (s : Settings) (E : ℕ → Type 0) (x : ℕ) : Type 0 where
+  pub top-down : s .direction ≡ 0 → Highest E x
+  pub bottom-up : s .direction ≡ 1 → (y : ℕ) → AboveImage s E y → Lowest (AboveImage s E) x
+  pub other-way : s .direction ≡ 1 → ((y : ℕ) → AboveImage s E y → ⊥) → Highest E x
 
 -- the slip is of 16 bytes, and the checks have the number 0
 pub record Passed (checks : ℕ) (slip : List ℕ) : Type 0 where
@@ -55,20 +70,17 @@ pub record Passed (checks : ℕ) (slip : List ℕ) : Type 0 where
   pub fine : checks ≡ 0
 
 -- what an answer says of the addresses at which E holds: 5 exactly when the checks passed and there is none; when there is one, a number of
--- `done`; and with 0 the slip's first number is one, and none lies beyond it
-pub record Searched (passed : Type 0) (E : ℕ → Type 0) (beyond : ℕ → ℕ → Type 0) (done : ℕ → Type 0) (a : Answer) : Type 0 where
+-- `done`; and with 0 the slip's first number is the right one
+pub record Searched (passed : Type 0) (E : ℕ → Type 0) (right : ℕ → Type 0) (done : ℕ → Type 0) (a : Answer) : Type 0 where
   pub five : a .number ≡ 5 → passed × ((x : ℕ) → E x → ⊥)
   pub none : passed → ((x : ℕ) → E x → ⊥) → a .number ≡ 5
   pub some : passed → (x : ℕ) → E x → done (a .number)
-  pub given : a .number ≡ 0 → Best E beyond (number 8 (a .slip))
-
--- y lies beyond x: bottom-up (direction 1) below it, top-down (0) above it
-abbrev pub Beyond : ℕ → ℕ → ℕ → Type 0
-Beyond direction y x = ((direction ≡ 1) × (y < x)) ⊎ ((direction ≡ 0) × (x < y))
+  pub given : a .number ≡ 0 → right (number 8 (a .slip))
 
 -- find and allocate, of the block as lent
 abbrev pub LooksEligible : Layout → Query → List ℕ → List ℕ → (ℕ → Type 0) → Answer → Type 0
-LooksEligible L q b slip done a = Searched (Passed (checkNumber L q b) slip) (Eligible (contents L b) q) (Beyond (contents L b .settings .direction)) done a
+LooksEligible L q b slip done a =
+    Searched (Passed (checkNumber L q b) slip) (Eligible (contents L b) q) (ByDirection (contents L b .settings) (Eligible (contents L b) q)) done a
 
 -- done, or the table is full
 abbrev pub OrFull : ℕ → Type 0
@@ -97,4 +109,4 @@ ReserveSentence = (L : Layout) (q : Query) (b slip : List ℕ) → LooksThenRese
 abbrev pub NextFreeSentence : Type 0
 NextFreeSentence =
     (L : Layout) (p node wish : ℕ) (b slip : List ℕ)
-    → Searched (Passed (nextNumber L node wish b) slip) (FreeFrom (contents L b) p node wish) (λ y x. y < x) (λ n. n ≡ 0) (nextFree L p node wish b slip)
+    → Searched (Passed (nextNumber L node wish b) slip) (FreeFrom (contents L b) p node wish) (Lowest (FreeFrom (contents L b) p node wish)) (λ n. n ≡ 0) (nextFree L p node wish b slip)

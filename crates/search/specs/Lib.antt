@@ -3,4 +3,5 @@ pub mod DemandTwo
 pub mod RunEnd
 pub mod Search
 pub mod Steps
+pub mod TopDown
 pub mod Wishes

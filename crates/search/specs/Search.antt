@@ -11,7 +11,7 @@ use Rattle.regions.specs.Runs.{inOne, runAt}
 use Rattle.block.specs.Block.{Contents}
 use Rattle.runs.specs.declared.Query.{Query}
 use Rattle.runs.specs.declared.fit.Place.{Place}
-use Rattle.runs.specs.Eligible.{lowest, highest, wanted, eligible}
+use Rattle.runs.specs.Eligible.{orElse, lowest, highest, wanted, eligible}
 use Rattle.runs.specs.Places.{hitOf, placeOf}
 
 -- ---- find
@@ -41,10 +41,15 @@ window limit q =
 abbrev pub runsOf : Contents → List Region
 runsOf s = freeRuns (s .memory) (s .taken)
 
--- what find finds: bottom-up (direction 1) the lowest eligible address, top-down the highest
+-- of the addresses at which p holds (E7): the lowest at or above the image end or, where there is none, the highest
+abbrev pub bottomUp : ℕ → (ℕ → Bool) → Option ℕ
+bottomUp image p = orElse (lowest (λ a. leb image a && p a) top) (highest p top)
+
+-- what find finds of the eligible addresses: bottom-up (direction 1) so, top-down the highest
 unfoldable pub found : Contents → Query → Option ℕ
 found s q =
-    cond (eqb (s .settings .direction) 1) (lowest (eligible (window (s .settings .limit .0) q) (runsOf s)) top) (highest (eligible (window (s .settings .limit .0) q) (runsOf s)) top)
+    let p = eligible (window (s .settings .limit .0) q) (runsOf s) in
+    cond (eqb (s .settings .direction) 1) (bottomUp (s .settings .image .0) p) (highest p top)
 
 -- the same with the free run that it lies in
 unfoldable pub foundPlace : Contents → Query → Place

@@ -8,14 +8,17 @@ use Rattle.address.specs.Numbers.{powerOfTwo}
 use Rattle.address.specs.declared.Address.{Address}
 use Rattle.regions.specs.declared.Kind.the-variants.{Taken}
 use Rattle.regions.specs.Meaning.{top}
+use Rattle.regions.specs.Runs.{runAt}
 use Rattle.block.specs.Block.{current, offset, blockLength, Contents, readHeader, contents, good}
 use Rattle.change.specs.Steps.{Vacant}
 use Rattle.runs.specs.declared.Query.{Query}
 use Rattle.runs.specs.declared.Way.{Way}
 use Rattle.runs.specs.declared.fit.Place.{Place}
-use Rattle.runs.specs.Places.{placeOf}
+use Rattle.runs.specs.Eligible.{eligible}
+use Rattle.runs.specs.Places.{hitOf, placeOf}
 use Rattle.runs.specs.Steps.{firstIn}
 use Rattle.search.specs.declared.seek.Parts.{Parts}
+use Rattle.search.specs.Search.{runsOf, bottomUp}
 use Rattle.search.specs.Answers.{Answer, answer, refuse, withSlip, placeAnswer}
 
 -- a good block, and something that can be looked for
@@ -31,6 +34,14 @@ partsOf b = record { middle = offset current Taken; end = blockLength current; m
 -- what a walk finds in the tables
 abbrev pub firstOf : Way → Contents → Query → Place
 firstOf v s q = placeOf (firstIn v (s .memory) (s .taken) q)
+
+-- a query with another window
+abbrev pub withWindow : Query → Address → Address → Query
+withWindow q start end = record { size = q .size; align = q .align; start = start; end = end; node = q .node; wish = q .wish }
+
+-- what a bottom-up search finds in a window
+abbrev pub bottomUpOf : Contents → Query → ℕ → Place
+bottomUpOf s w image = placeOf (hitOf (runAt (runsOf s)) (bottomUp image (eligible w (runsOf s))))
 
 -- what next free asks: one address from p on
 abbrev pub nextQuery : Address → ℕ → ℕ → Query

@@ -13,7 +13,7 @@ ghost use Prim.Native.Nat.{_≤_};
 ghost use lib.ListN.{length};
 ghost use Rattle.block.specs.Block.{current, contents, good};
 ghost use Rattle.search.specs.Search.{boundedEnd, window as windowOf, foundPlace, nextPlace};
-ghost use Rattle.search.specs.Steps.{Ready, partsOf, firstOf, nextQuery};
+ghost use Rattle.search.specs.Steps.{Ready, withWindow, partsOf, firstOf, bottomUpOf, nextQuery};
 
 // Where a search with this end ends in a block with this limit: 0 means the limit, and a named end is cut to it.
 fn bounded_end(limit: Address, end: Address) -> Address
@@ -25,17 +25,12 @@ fn bounded_end(limit: Address, end: Address) -> Address
     end.min(limit)
 }
 
-// What is searched in a block with this limit: start is raised to at least 4096, then the bounded end to at least start.
-fn window(limit: Address, q: Query) -> Query
-    ensures { λ r. ⌜ r ≡ windowOf (limit .0) q ⌝ }
+// The query with another window.
+fn with_window(q: Query, start: Address, end: Address) -> Query
+    ensures { λ r. ⌜ r ≡ withWindow q start end ⌝ }
 {
     let size = q.size;
     let align = q.align;
-    let first = q.start;
-    let last = q.end;
-    let start = first.max(Address(4096));
-    let bound = bounded_end(limit, last);
-    let end = bound.max(start);
     Query {
         size,
         align,
@@ -44,6 +39,17 @@ fn window(limit: Address, q: Query) -> Query
         node: q.node,
         wish: q.wish,
     }
+}
+
+// What is searched in a block with this limit: start is raised to at least 4096, then the bounded end to at least start.
+fn window(limit: Address, q: Query) -> Query
+    ensures { λ r. ⌜ r ≡ windowOf (limit .0) q ⌝ }
+{
+    let first = q.start;
+    let last = q.end;
+    let start = first.max(Address(4096));
+    let bound = bounded_end(limit, last);
+    with_window(q, start, bound.max(start))
 }
 
 // Where the block's tables lie, from byte 80 to `middle` and from there to `end`, and how many records each has.
@@ -87,18 +93,38 @@ fn first_in(block: &[u8], q: Query, way: Way) -> Place
     )
 }
 
-// What find finds, with its run: bottom-up (direction 1) the lowest eligible address, top-down the highest.
+// The lowest eligible address at or above the image end or, where there is none, the highest of the window, with its run. Where the window
+// begins at or above the image end, the way up has seen all of it.
+fn bottom_up_in(block: &[u8], w: Query, image: Address) -> Place
+    requires { ⌜ Ready (now block) w ⌝ }
+    ensures { λ r. ⌜ r ≡ bottomUpOf (contents current (now (block .entry))) w (image .0) ⌝ }
+{
+    let start = w.start;
+    let end = w.end;
+    let above = with_window(w, start.max(image), end);
+    let found = first_in(block, above, Way::Up);
+    if let Place::Here(a, run) = found {
+        return Place::Here(a, run);
+    }
+    if image.0 <= start.0 {
+        return Place::Nowhere;
+    }
+    first_in(block, w, Way::Down)
+}
+
+// What find finds, with its run: bottom-up (direction 1) the lowest at or above the image end first, top-down the highest.
 pub fn find_in(block: &[u8], q: Query) -> Place
     requires { ⌜ Ready (now block) q ⌝ }
     ensures { λ r. ⌜ r ≡ foundPlace (contents current (now (block .entry))) q ⌝ }
 {
     let h = get_header(block);
     let limit = h.settings.limit;
+    let image = h.settings.image;
     let w = window(limit, q);
-    if h.settings.direction == 1 {
-        return first_in(block, w, Way::Up);
+    if h.settings.direction != 1 {
+        return first_in(block, w, Way::Down);
     }
-    first_in(block, w, Way::Down)
+    bottom_up_in(block, w, image)
 }
 
 // What next free asks: one address from `p` on.

@@ -1,4 +1,4 @@
--- Every command leaves a good block: those on a range, trim and set one that was good, fresh any bytes of the right length. Assumes nothing.
+-- Every command leaves a good block: those on a range, trim, set and that for the image end one that was good, fresh any bytes of the right length. Assumes nothing.
 use Prim.Native.Nat.{ℕ, _%_, _^_, _<_}
 use mathlib.Core.Path.{_≡_, refl}
 use mathlib.Core.Bool.{Bool, true, false, cond}
@@ -8,19 +8,19 @@ use native.Mathlib.Nat.{mod-lt}
 use native.Mathlib.Omega.{arith}
 use lib.Dec.{leb, eqb, lit<}
 use lib.ListN.{length}
+use borrow.Author.Tests.{le-leb}
 use Rattle.address.specs.Numbers.{powerOfTwo}
 use Rattle.address.proofs.Powers.{power-some}
 use Rattle.address.proofs.Tests.{and}
 use Rattle.regions.specs.declared.Kind.the-variants.{Memory, Taken}
-use Rattle.regions.specs.declared.Region.{Region}
 use Rattle.regions.proofs.Numbers.{bytes-mod}
 use Rattle.block.specs.declared.Layout.{Layout}
-use Rattle.block.specs.Block.{current, capacity, blockLength, settings, settingsBytes, freshContents, headerBytes, blockBytes, contents, goodContents, good}
-use Rattle.block.proofs.Blocks.{tables-ok, good-contents}
+use Rattle.block.specs.Block.{current, capacity, blockLength, Contents, withSettings, settings, settingsBytes, totalsBytes, freshContents, headerBytes, blockBytes, contents, goodContents, good}
+use Rattle.block.proofs.Blocks.{direction-ok, tables-ok, good-contents}
 use Rattle.block.proofs.Reading.{Spellable, good-spelled-block}
 use Rattle.block.proofs.Layouts.{small-current}
 use Rattle.block.proofs.Kept.{change-kept, trim-kept}
-use Rattle.tables.specs.Commands.{Outcome, outcome, unless, doneWith, store, Command, table, changeOf, legalVerb, commandOutcome, fresh, set, trim}
+use Rattle.tables.specs.Commands.{Outcome, outcome, unless, doneWith, store, Command, table, changeOf, legalVerb, commandOutcome, fresh, set, setImageEnd, trim}
 use Rattle.tables.specs.DemandTwo.{finished}
 use Rattle.tables.proofs.Verbs.{verb-keeps}
 use Rattle.tables.proofs.Printed.{fresh-spellable}
@@ -63,30 +63,38 @@ module _ (b : List ℕ) (g : good current b ≡ true) where
       go false e = rw (g, e) g
       go true e = rw (g, e) (trim-kept current small-current b g k (power-some k e) .isGood)
 
--- ---- set and fresh
+-- ---- set, the image end and fresh
 
--- of a limit eight bytes are spelled
-limit-spelled : (L : Layout) (m n : List Region) (limit direction : ℕ)
-    → blockBytes L (record { memory = m; taken = n; settings = settings (limit % 256 ^ 8) direction })
-    ≡ blockBytes L (record { memory = m; taken = n; settings = settings limit direction })
-unfolding blockBytes headerBytes settingsBytes
-limit-spelled L m n limit direction = rw (bytes-mod 8 limit)
+-- of a limit and of an image end eight bytes are spelled
+settings-spelled : (L : Layout) (s : Contents) (limit direction image : ℕ)
+    → blockBytes L (withSettings s (settings (limit % 256 ^ 8) direction (image % 256 ^ 8))) ≡ blockBytes L (withSettings s (settings limit direction image))
+unfolding blockBytes headerBytes settingsBytes totalsBytes
+settings-spelled L s limit direction image = rw (bytes-mod 8 limit, bytes-mod 8 image)
+
+-- a good block with other settings, whatever the limit and the image end
+settings-good : (b : List ℕ) → good current b ≡ true → (limit direction image : ℕ) → leb direction 1 ≡ true
+    → good current (blockBytes current (withSettings (contents current b) (settings limit direction image))) ≡ true
+unfolding goodContents
+settings-good b g limit direction image e =
+    let s = contents current b in
+    let p = good-contents current b g in
+    let x : Spellable current (withSettings s (settings (limit % 256 ^ 8) direction (image % 256 ^ 8))) =
+    record { good = and e (and (tables-ok current s p Memory) (tables-ok current s p Taken)); settings = record { limit = mod-lt limit (lit< tt); image = mod-lt image (lit< tt) } } in
+    rw (← settings-spelled current s limit direction image) (good-spelled-block current small-current _ x)
 
 pub set-good : (b : List ℕ) → good current b ≡ true → (limit direction : ℕ) → good current (set current limit direction b .block) ≡ true
-unfolding set goodContents
+unfolding set
 set-good b g limit direction = go (leb direction 1) refl
   where
-    small : limit % 256 ^ 8 < 2 ^ 64
-    small = mod-lt limit (lit< tt)
-
-    spellable : leb direction 1 ≡ true → Spellable current (record { memory = contents current b .memory; taken = contents current b .taken; settings = settings (limit % 256 ^ 8) direction })
-    spellable e =
-        let p = good-contents current b g in
-        record { good = and e (and (tables-ok current (contents current b) p Memory) (tables-ok current (contents current b) p Taken)); limit = small }
-
     go : (t : Bool) → leb direction 1 ≡ t → good current (set current limit direction b .block) ≡ true
     go false e = rw (g, e) g
-    go true e = rw (g, e, ← limit-spelled current (contents current b .memory) (contents current b .taken) limit direction) (good-spelled-block current small-current _ (spellable e))
+    go true e = rw (g, e) (settings-good b g limit direction _ e)
+
+pub image-good : (b : List ℕ) → good current b ≡ true → (image : ℕ) → good current (setImageEnd current image b .block) ≡ true
+unfolding setImageEnd
+image-good b g image =
+    let d = direction-ok current (contents current b) (good-contents current b g) in
+    rw g (settings-good b g _ _ image (le-leb (contents current b .settings .direction) 1 d))
 
 -- a fresh block is good; other lengths are refused
 pub fresh-good : (b : List ℕ) → fresh current b .number ≡ 0 → good current (fresh current b .block) ≡ true

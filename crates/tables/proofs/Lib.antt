@@ -3,6 +3,7 @@ pub mod Commanding
 pub mod DemandTwo
 pub mod Front
 pub mod Good
+pub mod ImageEnd
 pub mod Printed
 pub mod Ranging
 pub mod Setting

@@ -73,7 +73,7 @@ fresh-spellable L =
     let t : rises 0 Absent top [] ≡ true = le-leb 0 top (omega arith) in
     let m : leb 0 (capacity L Memory) ≡ true = le-leb 0 (capacity L Memory) (omega arith) in
     let n : leb 0 (capacity L Taken) ≡ true = le-leb 0 (capacity L Taken) (omega arith) in
-    record { good = rw (m, n, t); limit = omega arith }
+    record { good = rw (m, n, t); settings = record { limit = omega arith; image = omega arith } }
 
 -- ---- one range added
 

@@ -1,4 +1,4 @@
--- The outcomes of fresh and set, answer by answer. Assumes nothing.
+-- The outcomes of fresh, set and the command for the image end, answer by answer. Assumes nothing.
 use Prim.Native.Nat.{ℕ, _+_, _*_, _-_, _≤_, _<_}
 use mathlib.Core.Path.{_≡_, sym, ap, _∙_}
 use mathlib.Core.Bool.{Bool, true, false, not}
@@ -9,7 +9,7 @@ use lib.Seq.{sets, drop-at, length-take-le}
 use borrow.Author.Tests.{eq-eqb, ne-eqb, le-leb, lt-leb}
 use Rattle.address.specs.declared.Address.{Address}
 use Rattle.regions.specs.Meaning.{at, total, top}
-use Rattle.regions.specs.Bytes.{tableBytes, regionsBytes}
+use Rattle.regions.specs.Bytes.{bytes, tableBytes, regionsBytes}
 use Rattle.regions.proofs.Rises.{ended}
 use Rattle.regions.proofs.Count.{sizes}
 use Rattle.regions.proofs.Good.{total-is-sizes}
@@ -17,10 +17,11 @@ use Rattle.regions.proofs.Numbers.{Bytes}
 use Rattle.block.specs.declared.Layout.{Layout}
 use Rattle.block.specs.declared.Header.{Header}
 use Rattle.block.specs.Block.{current, capacity, settings, blockLength, freshContents, headerBytes, blockBytes, readHeader, good}
-use Rattle.tables.specs.Commands.{outcome, fresh, set}
+use Rattle.tables.specs.Commands.{outcome, fresh, set, setImageEnd}
 use Rattle.block.proofs.Headers.{sets-header}
 use Rattle.block.proofs.Blocks.{good-length, bad-here, good-here}
 use Rattle.block.proofs.Reading.{good-header, good-tables}
+use Rattle.block.proofs.Fields.{image-written}
 use Rattle.block.proofs.Layouts.{small-current}
 
 -- ---- fresh
@@ -35,7 +36,7 @@ freshHeader =
     record {
       memory = record { count = 0; total = record { 0 = 0 } };
       taken = record { count = 0; total = record { 0 = 0 } };
-      settings = settings 18446744073709551615 0;
+      settings = settings 18446744073709551615 0 0;
     }
 
 pub fresh-spelled : (L : Layout) → blockBytes L freshContents ≡ headerBytes L freshHeader ++ replicate (24 * (L .memory + L .taken)) 0
@@ -78,9 +79,26 @@ module _ (l : Layout) (is : l ≡ current) (b : List ℕ) (x : Address) (d : ℕ
     set-room = omega (arith, good-length current b (good-here l is b g q t))
 
     pub set-done : Bytes b → d ≤ 1 → (own : Header) → own ≡ readHeader b → (y : List ℕ)
-        → y ≡ sets b 0 (headerBytes l (record { memory = own .memory; taken = own .taken; settings = settings (x .0) d })) → outcome 0 y ≡ set current (x .0) d b
+        → y ≡ sets b 0 (headerBytes l (record { memory = own .memory; taken = own .taken; settings = settings (x .0) d (own .settings .image .0) })) → outcome 0 y ≡ set current (x .0) d b
     unfolding set blockBytes
     set-done bs h own r y p =
         let k : good current b ≡ true = good-here l is b g q t in
         let e = r ∙ good-header current small-current b bs k in
         rw (k, le-leb d 1 h, p, is, e, sets-header current _ b set-room, good-tables current b k)
+
+-- ---- the image end
+
+module _ (l : Layout) (is : l ≡ current) (b : List ℕ) (v : Address) (g : Bool) (q : g ≡ good l b) where
+  pub image-bad : not g ≡ true → outcome 1 b ≡ setImageEnd current (v .0) b
+  unfolding setImageEnd
+  image-bad t = rw (bad-here l is b g q t)
+
+  module _ (t : not g ≡ false) where
+    pub image-room : 80 ≤ length b
+    image-room = omega (arith, good-length current b (good-here l is b g q t))
+
+    pub image-done : (y : List ℕ) → y ≡ sets b 72 (bytes 8 (v .0)) → outcome 0 y ≡ setImageEnd current (v .0) b
+    unfolding setImageEnd
+    image-done y p =
+        let k : good current b ≡ true = good-here l is b g q t in
+        rw k (ap (outcome 0) (p ∙ image-written current b k (v .0)))

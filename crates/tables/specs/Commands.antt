@@ -15,9 +15,10 @@ use Rattle.regions.specs.Lists.{legalTag}
 use Rattle.regions.specs.Changes.{oneFlag, changed}
 use Rattle.regions.specs.Trim.{trimmedList}
 use Rattle.block.specs.declared.Layout.{Layout}
+use Rattle.block.specs.declared.Settings.{Settings}
 use Rattle.tables.specs.declared.commands.Verb.{Verb}
 use Rattle.tables.specs.declared.commands.Verb.the-variants.{Add, Remove, Mark, Unmark, Reserve, Free}
-use Rattle.block.specs.Block.{blockLength, capacity, settings, listOf, withList, freshContents, blockBytes, contents, good}
+use Rattle.block.specs.Block.{blockLength, capacity, listOf, withList, withSettings, settings, withImage, freshContents, blockBytes, contents, good}
 
 -- the number that boot code gets back, and every byte of the block after the call
 pub record Outcome : Type 0 where
@@ -38,12 +39,18 @@ unless test n b o = cond test o (outcome n b)
 unfoldable pub fresh : Layout → List ℕ → Outcome
 fresh L b = unless (eqb (length b) (blockLength L)) 1 b (doneWith (blockBytes L freshContents))
 
+-- a good block with other settings
+abbrev pub setTo : Layout → Settings → List ℕ → Outcome
+setTo L x b = doneWith (blockBytes L (withSettings (contents L b) x))
+
+-- stores a limit and a direction; the image end stays
 unfoldable pub set : Layout → ℕ → ℕ → List ℕ → Outcome
 set L limit direction b =
-    let s = contents L b in
-    unless (good L b) 1 b
-    (unless (leb direction 1) 7 b
-    (doneWith (blockBytes L (record { memory = s .memory; taken = s .taken; settings = settings limit direction }))))
+    unless (good L b) 1 b (unless (leb direction 1) 7 b (setTo L (settings limit direction (contents L b .settings .image .0)) b))
+
+-- E7: stores the image end; limit and direction stay
+unfoldable pub setImageEnd : Layout → ℕ → List ℕ → Outcome
+setImageEnd L image b = unless (good L b) 1 b (setTo L (withImage (contents L b .settings) image) b)
 
 -- the block with another list in one of its tables, if the table has room for it
 unfoldable pub store : Layout → Kind → List Region → List ℕ → Outcome

@@ -1,4 +1,5 @@
 pub mod BadTag
 pub mod Commands
 pub mod DemandTwo
+pub mod ImageEnd
 pub mod Steps

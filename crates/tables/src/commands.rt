@@ -10,6 +10,7 @@ use block::block_good;
 use block::current_layout;
 use block::get_header;
 use block::put_header;
+use block::put_image_end;
 use records::table::Tally;
 use records::table::put_zeros;
 use regions::Change;
@@ -20,7 +21,7 @@ ghost use mathlib.Core.Path.{_≡_};
 ghost use mathlib.Core.Bool.{true};
 ghost use Rattle.address.specs.Numbers.{powerOfTwo};
 ghost use Rattle.block.specs.Block.{current, good};
-ghost use Rattle.tables.specs.Commands.{outcome, fresh as freshOutcome, set as setOutcome, trim as trimOutcome, table as tableOf, changeOf, legalVerb, command, commandOutcome};
+ghost use Rattle.tables.specs.Commands.{outcome, fresh as freshOutcome, set as setOutcome, setImageEnd, trim as trimOutcome, table as tableOf, changeOf, legalVerb, command, commandOutcome};
 
 // Writes a fresh block over any bytes of the right length.
 pub fn fresh(block: &mut [u8]) -> u32
@@ -39,6 +40,7 @@ pub fn fresh(block: &mut [u8]) -> u32
         settings: Settings {
             limit: Address(0xFFFF_FFFF_FFFF_FFFF),
             direction: 0,
+            image: Address(0),
         },
     };
     put_zeros(block, 80);
@@ -46,7 +48,7 @@ pub fn fresh(block: &mut [u8]) -> u32
     0
 }
 
-// Stores a limit and a direction.
+// Stores a limit and a direction. The image end stays.
 pub fn set(block: &mut [u8], limit: Address, direction: u32) -> u32
     ensures { λ r. ⌜ outcome r (now (block .exit)) ≡ setOutcome current (limit .0) direction (now (block .entry)) ⌝ }
 {
@@ -60,12 +62,28 @@ pub fn set(block: &mut [u8], limit: Address, direction: u32) -> u32
     let own = get_header(block);
     let memory = own.memory;
     let taken = own.taken;
+    let image = own.settings.image;
     let header = Header {
         memory,
         taken,
-        settings: Settings { limit, direction },
+        settings: Settings {
+            limit,
+            direction,
+            image,
+        },
     };
     put_header(block, layout, header);
+    0
+}
+
+// Stores the image end; 0 means none. All else stays.
+pub fn set_image_end(block: &mut [u8], image: Address) -> u32
+    ensures { λ r. ⌜ outcome r (now (block .exit)) ≡ setImageEnd current (image .0) (now (block .entry)) ⌝ }
+{
+    if !block_good(block, current_layout()) {
+        return 1;
+    }
+    put_image_end(block, image);
     0
 }
 

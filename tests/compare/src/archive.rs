@@ -26,6 +26,7 @@ macro_rules! functions {
 functions! {
     has_memblock_fresh => memblock_fresh(block: *mut u8, len: usize);
     has_memblock_set => memblock_set(block: *mut u8, len: usize, limit: u64, direction: u32);
+    has_memblock_set_image_end => memblock_set_image_end(block: *mut u8, len: usize, end: u64);
     has_memblock_add => memblock_add(
         block: *mut u8, len: usize, base: u64, size: u64, flags: u32, node: u32);
     has_memblock_remove => memblock_remove(block: *mut u8, len: usize, base: u64, size: u64);

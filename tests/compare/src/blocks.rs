@@ -32,6 +32,7 @@ pub struct Draft {
     pub taken: Vec<Rec>,
     pub limit: u64,
     pub direction: u32,
+    pub image_end: u64,
 }
 
 pub fn put_u32(bytes: &mut [u8], at: usize, x: u32) {
@@ -84,6 +85,7 @@ impl Draft {
         put_u32(&mut bytes, 4, BODIES);
         put_u64(&mut bytes, LIMIT_AT, self.limit);
         put_u32(&mut bytes, DIRECTION_AT, self.direction);
+        put_u64(&mut bytes, IMAGE_END_AT, self.image_end);
         let lists = [&self.memory, &self.taken];
         for (body, list) in [self.body(false), self.body(true)].into_iter().zip(lists) {
             put_u32(&mut bytes, body.entry, body.kind);
@@ -263,6 +265,33 @@ fn some_taken(rng: &mut Rng, count: usize, memory: &[Rec]) -> Vec<Rec> {
         .collect()
 }
 
+/// Where the image of a block ends: often nowhere, else at an edge of a record or
+/// beside it, inside one, at the limit, near an end of the space, or anywhere.
+fn some_image_end(rng: &mut Rng, draft: &Draft) -> u64 {
+    let list = match rng.below(3) {
+        0 => &draft.taken,
+        _ => &draft.memory,
+    };
+    match (rng.below(14), list.last()) {
+        (0..=3, _) => NO_IMAGE,
+        (4, _) => rng.beside(draft.limit),
+        (5, _) => u64::MAX - rng.below(3),
+        (6, _) => rng.pick(&[1, 4095, 4096, 4097, 1 << 63]),
+        (7, _) | (_, None) => rng.any_size(),
+        (8 | 9, _) => {
+            let rec = rng.pick(list);
+            let edge = rng.pick(&[rec.base, rec.end()]);
+            rng.beside(edge)
+        }
+        // Little or nothing above it.
+        (10 | 11, Some(last)) => last.end() - rng.below(last.size.min(0x2000) + 1),
+        _ => {
+            let rec = rng.pick(list);
+            rec.base + rng.below(rec.size)
+        }
+    }
+}
+
 /// A good block with these numbers of records.
 pub fn good(rng: &mut Rng, layout: &'static Layout, memory: usize, taken: usize) -> Draft {
     let memory = some_memory(rng, layout, memory);
@@ -276,13 +305,18 @@ pub fn good(rng: &mut Rng, layout: &'static Layout, memory: usize, taken: usize)
         4 => rng.pick(&[0, 1, 4095, 4096, 4097, 1 << 63]),
         _ => u64::MAX,
     };
-    Draft {
+    let mut draft = Draft {
         layout,
         memory,
         taken,
         limit,
         direction: rng.below(2) as u32,
+        image_end: NO_IMAGE,
+    };
+    if layout.edition != EDITION_1.edition {
+        draft.image_end = some_image_end(rng, &draft);
     }
+    draft
 }
 
 /// A fill that is small, anything, or full or nearly so; of a large table, whose
@@ -309,7 +343,8 @@ pub fn some_good(rng: &mut Rng, layout: &'static Layout) -> Draft {
 pub enum Damage {
     Word(usize),
     Total(usize),
-    Long(usize),
+    /// Another image end, which is legal today.
+    ImageEnd,
     Count(bool),
     Order(bool),
     Twice(bool),
@@ -336,7 +371,7 @@ impl Damage {
             .map(Damage::Word)
             .to_vec();
         all.extend([MEMORY.total_at, TAKEN.total_at].map(Damage::Total));
-        all.push(Damage::Long(ZERO_LONG_AT));
+        all.push(Damage::ImageEnd);
         for taken in [false, true] {
             all.extend([
                 Damage::Count(taken),
@@ -367,10 +402,15 @@ impl Damage {
     pub fn certain(self, layout: &Layout) -> bool {
         match self {
             Damage::ByteFlip => false,
-            // By document 01 flags are 0 or 4 and nothing else.
-            Damage::LegalFlags => layout.edition == EDITION_1.edition,
+            // By document 01 flags are 0 or 4, and there is zero where the image end is.
+            Damage::LegalFlags | Damage::ImageEnd => layout.edition == EDITION_1.edition,
             _ => true,
         }
+    }
+
+    /// Whether it leaves most blocks of today good.
+    pub fn legal(self) -> bool {
+        matches!(self, Damage::LegalFlags | Damage::ImageEnd)
     }
 
     /// A damaged block made from a good one.
@@ -390,18 +430,15 @@ impl Damage {
                 put_u32(&mut bytes, at, new);
                 bytes
             }
-            Damage::Total(at) | Damage::Long(at) => {
+            Damage::Total(at) => {
                 let mut bytes = draft.bytes();
-                let old = get_u64(&bytes, at);
-                let new = match rng.below(5) {
-                    0 => old.wrapping_add(1),
-                    1 => old.wrapping_sub(1),
-                    2 => old ^ 1 << rng.below(64),
-                    3 => old.swap_bytes(),
-                    _ => rng.any_size(),
-                };
-                put_u64(&mut bytes, at, if new == old { !old } else { new });
+                let new = other_long(rng, get_u64(&bytes, at));
+                put_u64(&mut bytes, at, new);
                 bytes
+            }
+            Damage::ImageEnd => {
+                draft.image_end = other_long(rng, draft.image_end);
+                draft.bytes()
             }
             Damage::Count(taken) => {
                 let mut bytes = draft.bytes();
@@ -628,6 +665,22 @@ impl Damage {
             }
             Damage::Uniform => vec![rng.pick(&[0, 0xFF, 1, 0x80]); length],
         }
+    }
+}
+
+/// Another u64 than the old one.
+fn other_long(rng: &mut Rng, old: u64) -> u64 {
+    let new = match rng.below(5) {
+        0 => old.wrapping_add(1),
+        1 => old.wrapping_sub(1),
+        2 => old ^ 1 << rng.below(64),
+        3 => old.swap_bytes(),
+        _ => rng.any_size(),
+    };
+    if new == old {
+        !old
+    } else {
+        new
     }
 }
 

@@ -8,6 +8,7 @@ use std::sync::Arc;
 pub enum Command {
     Fresh,
     Set,
+    SetImageEnd,
     Add,
     Remove,
     Mark,
@@ -25,9 +26,22 @@ pub enum Command {
 use Command::*;
 
 impl Command {
-    pub const ALL: [Command; 14] = [
-        Fresh, Set, Add, Remove, Mark, Unmark, Reserve, Free, Trim, NextFree, Find, Allocate,
-        Intake, Convert,
+    pub const ALL: [Command; 15] = [
+        Fresh,
+        Set,
+        SetImageEnd,
+        Add,
+        Remove,
+        Mark,
+        Unmark,
+        Reserve,
+        Free,
+        Trim,
+        NextFree,
+        Find,
+        Allocate,
+        Intake,
+        Convert,
     ];
 
     /// The commands that demand 3 speaks of.
@@ -37,6 +51,7 @@ impl Command {
         match self {
             Fresh => "memblock_fresh",
             Set => "memblock_set",
+            SetImageEnd => "memblock_set_image_end",
             Add => "memblock_add",
             Remove => "memblock_remove",
             Mark => "memblock_mark",
@@ -52,10 +67,10 @@ impl Command {
         }
     }
 
-    /// The numbers that document 01 and requests E1, E4 and E6 allow.
+    /// The numbers that document 01 and requests E1, E4, E6 and E7 allow.
     pub fn allowed(self) -> &'static [u32] {
         match self {
-            Fresh | Convert => &[0, 1],
+            Fresh | SetImageEnd | Convert => &[0, 1],
             Set => &[0, 1, 7],
             Add | Mark | Unmark => &[0, 1, 2, 6],
             Remove | Reserve | Free => &[0, 1, 6],
@@ -86,6 +101,9 @@ pub enum Call {
     Set {
         limit: u64,
         direction: u32,
+    },
+    SetImageEnd {
+        end: u64,
     },
     Add {
         base: u64,
@@ -127,6 +145,7 @@ impl Call {
         match *self {
             Call::Fresh => Fresh,
             Call::Set { .. } => Set,
+            Call::SetImageEnd { .. } => SetImageEnd,
             Call::Add { .. } => Add,
             Call::Range { command, .. } | Call::Mark { command, .. } => command,
             Call::Trim { .. } => Trim,
@@ -155,6 +174,7 @@ impl Call {
             Call::Set { limit, direction } => {
                 vec![("limit", limit), ("direction", direction.into())]
             }
+            Call::SetImageEnd { end } => vec![("end", end)],
             Call::Add {
                 base,
                 size,
@@ -196,6 +216,7 @@ impl Call {
         match *self {
             Call::Fresh => model::fresh(block),
             Call::Set { limit, direction } => model::set(block, limit, direction),
+            Call::SetImageEnd { end } => model::set_image_end(block, end),
             Call::Add {
                 base,
                 size,
@@ -241,6 +262,7 @@ impl Call {
             match *self {
                 Call::Fresh => archive::memblock_fresh(b, len),
                 Call::Set { limit, direction } => archive::memblock_set(b, len, limit, direction),
+                Call::SetImageEnd { end } => archive::memblock_set_image_end(b, len, end),
                 Call::Add {
                     base,
                     size,

@@ -1,4 +1,4 @@
-//! The twelve cases of document 01 and those of requests E1 and E3 to E6, run
+//! The twelve cases of document 01 and those of requests E1 and E3 to E7, run
 //! through the archive.
 
 use crate::blocks::{get_u64, read_recs};
@@ -116,6 +116,14 @@ impl Case<'_> {
         self.does(Call::Set { limit, direction }, 0);
     }
 
+    fn image(&mut self, end: u64) {
+        self.image_gives(end, 0);
+    }
+
+    fn image_gives(&mut self, end: u64, number: u32) {
+        self.does(Call::SetImageEnd { end }, number);
+    }
+
     /// Find and allocate, on the same block, in both directions.
     fn within(&mut self, limit: u64, query: Query, bottom_up: Answer, top_down: Answer) {
         for (direction, wanted) in [(BOTTOM_UP, bottom_up), (TOP_DOWN, top_down)] {
@@ -190,7 +198,7 @@ fn query(size: u64, alignment: u64) -> Query {
 }
 
 pub fn run(desk: &mut Desk) -> u32 {
-    let cases: [fn(&mut Desk); 41] = [
+    let cases: [fn(&mut Desk); 50] = [
         printed,
         one,
         two_and_three,
@@ -232,6 +240,15 @@ pub fn run(desk: &mut Desk) -> u32 {
         wishes_checked,
         wishes_granted,
         old_flags,
+        image_stored,
+        image_of_a_bad_block,
+        image_kept,
+        image_of_an_old_block,
+        image_and_runs,
+        image_and_window,
+        image_and_allocations,
+        image_and_full_table,
+        image_and_next_free,
     ];
     for (turn, case) in cases.iter().enumerate() {
         desk.turn = turn as u64;
@@ -259,7 +276,7 @@ fn printed_bytes(edition: u8, length: usize) -> Vec<u8> {
         0, 0, 0, 0, 0, 0, 0, 0, // direction, zero
         0, 0x10, 0, 0, 0, 0, 0, 0, // memory total
         0, 0, 0, 0, 0, 0, 0, 0, // taken total
-        0, 0, 0, 0, 0, 0, 0, 0, // zero
+        0, 0, 0, 0, 0, 0, 0, 0, // zero, or no image end
         0, 0x10, 0, 0, 0, 0, 0, 0, // base
         0, 0x10, 0, 0, 0, 0, 0, 0, // size
         0, 0, 0, 0, 0, 0, 0, 0, // flags, node
@@ -719,6 +736,7 @@ fn old_blocks_refused(desk: &mut Desk) {
     c.block = old.clone();
     c.does(Call::Fresh, 1);
     c.turn_gives(1);
+    c.image_gives(0x1000, 1);
     c.add_gives(0, 0, 0, 1);
     for command in [Command::Remove, Command::Reserve, Command::Free] {
         c.range(command, 0x1000, 0x1000, 1);
@@ -749,6 +767,7 @@ fn bad_old_blocks(desk: &mut Desk) {
         (52, 1),
         (56, 0),
         (72, 1),
+        (76, 1 << 31),
         (96, 1),
         (96, 2),
         (96, 8),
@@ -1118,5 +1137,279 @@ fn old_flags(desk: &mut Desk) {
         c.convert(&old_of(&wanted), u32::from(!good));
         let wanted = if good { wanted } else { lent };
         c.expect("block", c.block.clone(), wanted);
+    }
+}
+
+const IMAGE_ENDS: [u64; 8] = [
+    0,
+    1,
+    4096,
+    0x18000,
+    1 << 32,
+    1 << 63,
+    u64::MAX - 1,
+    u64::MAX,
+];
+
+/// Any value is stored, from any other, and nothing else changes.
+fn image_stored(desk: &mut Desk) {
+    let mut c = four_tables(desk);
+    for direction in [TOP_DOWN, BOTTOM_UP] {
+        // Below and above the limit.
+        c.limit(0x11000, direction);
+        let mut wanted = c.block.clone();
+        for end in IMAGE_ENDS {
+            c.image(end);
+            wanted[72..80].copy_from_slice(&end.to_le_bytes());
+            c.expect("block", c.block.clone(), wanted.clone());
+            c.image(end);
+            c.expect("block", c.block.clone(), wanted.clone());
+        }
+    }
+}
+
+/// A bad block gets 1 and stays, whatever the value.
+fn image_of_a_bad_block(desk: &mut Desk) {
+    let mut c = four_tables(desk);
+    let good = c.block.clone();
+    for length in [0, 1, 72, 79, 80, 6224, 15439, 15441] {
+        let mut bad = good.clone();
+        bad.resize(length, 0);
+        for end in IMAGE_ENDS {
+            c.block = bad.clone();
+            c.image_gives(end, 1);
+            c.expect("block", c.block.clone(), bad.clone());
+        }
+    }
+    for at in [0, 4, 16, 48, 52, 56, 64, 100, 3168, 15439] {
+        let mut bad = good.clone();
+        bad[at] ^= 0x80;
+        for end in IMAGE_ENDS {
+            c.block = bad.clone();
+            c.image_gives(end, 1);
+            c.expect("block", c.block.clone(), bad.clone());
+        }
+    }
+}
+
+/// Every command but fresh and convert leaves it, and with it a block is good.
+fn image_kept(desk: &mut Desk) {
+    for end in IMAGE_ENDS {
+        let mut c = Case::new(desk);
+        c.image(end);
+        c.limit(0x1_0000_0000, BOTTOM_UP);
+        c.turn(TOP_DOWN);
+        c.does(
+            Call::Set {
+                limit: 0,
+                direction: 2,
+            },
+            7,
+        );
+        c.add(0x10000, 0x10000, 0);
+        c.add_gives(0x10000, 1, 64, 2);
+        c.range(Command::Remove, 0x1FFFF, 1, 0);
+        c.mark(0x11000, 0x1000, MIRROR, 0);
+        c.unmark(0x11000, 0x1000, MIRROR, 0);
+        c.range(Command::Reserve, 0x10000, 0x800, 0);
+        c.range(Command::Free, 0x10000, 0x400, 0);
+        c.does(Call::Trim { alignment: 0x1000 }, 0);
+        c.next_free(0, Ok((0x10000, 0x10400)));
+        c.find(0x1000, 1, Ok((0x1E000, 0x1F000)));
+        c.allocate(0x1000, 1, Ok((0x1E000, 0x1F000)));
+        c.intake(&[(0x30000, 0x1000, USABLE)], 0);
+        c.expect("image end", get_u64(&c.block, 72), end);
+        c.does(Call::Fresh, 0);
+        c.expect("image end", get_u64(&c.block, 72), 0);
+    }
+}
+
+/// An edition 1 block has zero there, and so has what is made of it.
+fn image_of_an_old_block(desk: &mut Desk) {
+    let mut c = four_tables(desk);
+    let wanted = c.block.clone();
+    let old = old_of(&wanted);
+    for end in IMAGE_ENDS {
+        c.image(end);
+        let lent = c.block.clone();
+        let mut other = old.clone();
+        other[72..80].copy_from_slice(&end.to_le_bytes());
+        c.convert(&other, u32::from(end != 0));
+        let block = if end == 0 { wanted.clone() } else { lent };
+        c.expect("block", c.block.clone(), block);
+        c.convert(&old, 0);
+        c.expect("converted", c.block.clone(), wanted.clone());
+    }
+}
+
+/// The image end below, at the beginning of, inside, at the end of and above each of two
+/// runs: 0x10000 to 0x18000 and 0x19000 to 0x20000.
+fn image_and_runs(desk: &mut Desk) {
+    let low = |a| Ok((a, 0x18000));
+    let mut c = four_tables(desk);
+    // For sizes of 0x1000, and of 0x8000, which the first run alone has.
+    for (image_end, small, large) in [
+        (0, low(0x10000), low(0x10000)),
+        (1, low(0x10000), low(0x10000)),
+        (0xFFFF, low(0x10000), low(0x10000)),
+        (0x10000, low(0x10000), low(0x10000)),
+        (0x10001, low(0x10001), low(0x10000)),
+        (0x16FFF, low(0x16FFF), low(0x10000)),
+        (0x17000, low(0x17000), low(0x10000)),
+        (0x17001, to_end(0x19000), low(0x10000)),
+        (0x17FFF, to_end(0x19000), low(0x10000)),
+        (0x18000, to_end(0x19000), low(0x10000)),
+        (0x18FFF, to_end(0x19000), low(0x10000)),
+        (0x19000, to_end(0x19000), low(0x10000)),
+        (0x19001, to_end(0x19001), low(0x10000)),
+        (0x1F000, to_end(0x1F000), low(0x10000)),
+        // The range would end above the run: the other way, past the image end.
+        (0x1F001, to_end(0x1F000), low(0x10000)),
+        (0x1FFFF, to_end(0x1F000), low(0x10000)),
+        (0x20000, to_end(0x1F000), low(0x10000)),
+        (0x20001, to_end(0x1F000), low(0x10000)),
+        (1 << 63, to_end(0x1F000), low(0x10000)),
+        (u64::MAX - 1, to_end(0x1F000), low(0x10000)),
+        (u64::MAX, to_end(0x1F000), low(0x10000)),
+    ] {
+        c.image(image_end);
+        c.within(u64::MAX, query(0x1000, 1), small, to_end(0x1F000));
+        c.within(u64::MAX, query(0x8000, 1), large, low(0x10000));
+        c.within(u64::MAX, query(0x8001, 1), Err(5), Err(5));
+    }
+    // As aligned, the first address at or above it, and none left in the first run.
+    for (image_end, a) in [
+        (0x10001, 0x12000),
+        (0x12000, 0x12000),
+        (0x16000, 0x16000),
+        (0x16001, 0x1A000),
+        (0x1E001, 0x1E000),
+    ] {
+        c.image(image_end);
+        let end = if a < 0x18000 { 0x18000 } else { END };
+        let wanted = Ok((a, end));
+        c.within(u64::MAX, query(0x1000, 0x2000), wanted, to_end(0x1E000));
+    }
+    // Rounded up it would be past the top.
+    let page = u64::MAX - 4095;
+    c.add(page, 0x1000, 0);
+    for image_end in [page + 1, u64::MAX - 1, u64::MAX] {
+        c.image(image_end);
+        let top = Ok((page, u64::MAX));
+        c.within(u64::MAX, query(0xFFF, 0x1000), top, top);
+        let below = to_end(0x1F000);
+        c.within(u64::MAX, query(0x1000, 0x1000), below, below);
+    }
+}
+
+/// The image end on both sides of the window's start and end, of the limit, and of 4096;
+/// 5 is of the whole window.
+fn image_and_window(desk: &mut Desk) {
+    let (start, end) = (0x12000, 0x14000);
+    let mut c = m(desk);
+    for (image_end, a) in [
+        (start - 1, start),
+        (start, start),
+        (start + 1, start + 1),
+        (end - 0x11, end - 0x11),
+        (end - 0x10, end - 0x10),
+        (end - 0xF, end - 0x10),
+        (end - 1, end - 0x10),
+        (end, end - 0x10),
+        (end + 1, end - 0x10),
+        (0x1F000, end - 0x10),
+        (u64::MAX, end - 0x10),
+    ] {
+        c.image(image_end);
+        let asked = |end| Query {
+            start,
+            end,
+            ..query(0x10, 1)
+        };
+        let top_down = to_end(end - 0x10);
+        c.within(u64::MAX, asked(end), to_end(a), top_down);
+        for named in [0, end, u64::MAX] {
+            c.within(end, asked(named), to_end(a), top_down);
+        }
+        c.range(Command::Reserve, start, end - start, 0);
+        c.within(u64::MAX, asked(end), Err(5), Err(5));
+        c.range(Command::Free, start, end - start, 0);
+    }
+    let mut c = Case::new(desk);
+    c.add(0, 0x1001, 0);
+    for image_end in [0, 1, 4095, 4096, 4097, u64::MAX] {
+        c.image(image_end);
+        let only = Ok((4096, 4097));
+        c.within(u64::MAX, query(1, 1), only, only);
+        c.within(u64::MAX, query(2, 1), Err(5), Err(5));
+        c.within(4096, query(1, 1), Err(5), Err(5));
+    }
+}
+
+/// Up from the image end, then down from above; freed room above it comes first again.
+fn image_and_allocations(desk: &mut Desk) {
+    let mut c = m(desk);
+    c.turn(BOTTOM_UP);
+    c.image(0x1C800);
+    for wanted in [
+        to_end(0x1D000),
+        to_end(0x1E000),
+        to_end(0x1F000),
+        Ok((0x1C000, 0x1D000)),
+        Ok((0x1B000, 0x1C000)),
+    ] {
+        c.allocate(0x1000, 0x1000, wanted);
+    }
+    c.range(Command::Free, 0x1E000, 0x1000, 0);
+    c.allocate(0x1000, 0x1000, Ok((0x1E000, 0x1F000)));
+    c.allocate(0x1000, 0x1000, Ok((0x1A000, 0x1B000)));
+    // Another image, then none.
+    c.image(0x14000);
+    c.allocate(0x1000, 0x1000, Ok((0x14000, 0x1A000)));
+    c.image(0);
+    c.allocate(0x1000, 0x1000, Ok((0x10000, 0x14000)));
+    c.table(
+        &TAKEN,
+        &[
+            (0x10000, 0x1000, 0, 0),
+            (0x14000, 0x1000, 0, 0),
+            (0x1A000, 0x6000, 0, 0),
+        ],
+    );
+}
+
+/// 6 speaks of the address that find gives, the other way too.
+fn image_and_full_table(desk: &mut Desk) {
+    let most = TAKEN.capacity as u64;
+    let mut c = Case::new(desk);
+    for i in 0..most {
+        c.range(Command::Reserve, 0x10000 + i * 0x2000, 0x1000, 0);
+    }
+    c.add(0x11000, 0x1000, 0);
+    c.add(0x100_0000, 0x3000, 0);
+    c.turn(BOTTOM_UP);
+    c.image(0x11001);
+    c.find(0x1000, 1, Ok((0x100_0000, 0x100_3000)));
+    c.allocate(0x1000, 1, Err(6));
+    c.image(u64::MAX);
+    c.find(0x1000, 1, Ok((0x100_2000, 0x100_3000)));
+    c.allocate(0x1000, 1, Err(6));
+    c.image(0x11000);
+    c.allocate(0x1000, 1, Ok((0x11000, 0x12000)));
+    c.count(&TAKEN, most - 1);
+}
+
+/// Next free takes no notice of the image.
+fn image_and_next_free(desk: &mut Desk) {
+    let mut c = four_tables(desk);
+    for direction in [TOP_DOWN, BOTTOM_UP] {
+        c.turn(direction);
+        for end in IMAGE_ENDS {
+            c.image(end);
+            c.next_free(0, Ok((0x10000, 0x18000)));
+            c.next_free(0x17FFF, Ok((0x17FFF, 0x18000)));
+            c.next_free(0x18000, to_end(0x19000));
+            c.next_free(0x20000, Err(5));
+        }
     }
 }

@@ -3,6 +3,7 @@
 
 use crate::blocks::{get_u32, get_u64, read_recs};
 use crate::call::{Call, Command};
+use crate::images::Images;
 use crate::limits::Sides;
 use crate::runs::Runs;
 use crate::wishes::Wishes;
@@ -153,6 +154,7 @@ pub struct Desk {
     pub sides: Sides,
     pub runs: Runs,
     pub wishes: Wishes,
+    pub images: Images,
     block_room: Lent,
     slip_room: Lent,
     source_room: Lent,
@@ -170,6 +172,7 @@ impl Desk {
             sides: Sides::default(),
             runs: Runs::default(),
             wishes: Wishes::default(),
+            images: Images::default(),
             block_room: Lent::new(),
             slip_room: Lent::new(),
             source_room: Lent::new(),
@@ -267,6 +270,7 @@ impl Desk {
             self.sides.note(call, &before, got, slip);
             self.runs.note(call, &before, got, slip);
             self.wishes.note(call, &before, got);
+            self.images.note(call, &before, got, slip);
         }
         got
     }

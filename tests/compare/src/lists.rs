@@ -27,6 +27,8 @@ pub struct Tally {
     /// Runs that kept the condition, with marks done of this flag: hotplug, mirror,
     /// no-map.
     pub flags: [u64; 3],
+    /// Runs that kept it, from a block with an image end.
+    pub images: u64,
     /// Runs that broke it by two flags on one address and by nothing else.
     pub two_flags: u64,
 }
@@ -159,6 +161,7 @@ pub fn predicted(start: &[u8], done: &[Call]) -> Option<Vec<u8>> {
         taken: predicted_table(&read_recs(start, &TAKEN), &on_taken),
         limit: get_u64(start, LIMIT_AT),
         direction: 0,
+        image_end: NO_IMAGE,
     };
     if draft.memory.len() > MEMORY.capacity || draft.taken.len() > TAKEN.capacity {
         return None;
@@ -346,6 +349,7 @@ pub fn run(desk: &mut Desk, until: u64) -> Tally {
             continue;
         }
         tally.predicted += 1;
+        tally.images += u64::from(get_u64(&start, IMAGE_END_AT) != NO_IMAGE);
         for (count, word) in tally.flags.iter_mut().zip(FLAG_WORDS) {
             let of_it = |call: &Call| matches!(*call, Call::Mark { flag, .. } if flag == word);
             *count += u64::from(done.iter().any(of_it));

@@ -7,6 +7,7 @@ mod call;
 mod cases;
 mod desk;
 mod editions;
+mod images;
 mod limits;
 mod lists;
 mod numbers;
@@ -132,7 +133,7 @@ fn main() {
             "cases" => {
                 let cases = cases::run(desk);
                 println!(
-                    "cases: all {cases} of document 01 and those of requests E1, E3 to E6, {} calls",
+                    "cases: all {cases} of document 01 and those of requests E1, E3 to E7, {} calls",
                     desk.calls
                 );
             }
@@ -194,8 +195,8 @@ fn numbers_reached(desk: &Desk) {
     );
 }
 
-/// Searches on every side of the limit and of a run's end were made, and with every
-/// wish.
+/// Searches on every side of the limit, of a run's end and of the image end were made,
+/// and with every wish.
 fn sides_met(desk: &Desk) {
     let searches = [Command::Find, Command::Allocate, Command::NextFree];
     if !searches.into_iter().all(Command::is_there) {
@@ -205,6 +206,7 @@ fn sides_met(desk: &Desk) {
         ("limit", desk.sides.told()),
         ("runs", desk.runs.told()),
         ("wishes", desk.wishes.told()),
+        ("images", desk.images.told()),
     ] {
         match told {
             Ok(counts) => println!("{what}: {counts}"),
@@ -235,7 +237,7 @@ fn lists(desk: &mut Desk, calls: u64) {
         "lists: {} calls, {} lists, {} runs as predicted, {} pairs of orders equal \
          ({} with refusals, {} with full tables), {} orders with other commands done, \
          {} runs outside the condition ({} by two flags on one address alone); lists with hotplug \
-         marks {}, mirror {}, no-map {}",
+         marks {}, mirror {}, no-map {}; with an image end {}",
         desk.calls - before,
         tally.lists,
         tally.predicted,
@@ -248,6 +250,7 @@ fn lists(desk: &mut Desk, calls: u64) {
         tally.flags[0],
         tally.flags[1],
         tally.flags[2],
+        tally.images,
     );
     let floor = calls / CALLS_PER_PAIR;
     let mut floors = vec![("pairs of orders", tally.pairs, floor)];
@@ -259,6 +262,7 @@ fn lists(desk: &mut Desk, calls: u64) {
             floor / 20,
         ));
         floors.push(("lists with two flags", tally.two_flags, floor / 20));
+        floors.push(("lists with an image end", tally.images, floor / 10));
         for (what, count) in [
             "lists with hotplug marks",
             "lists with mirror marks",
@@ -395,8 +399,9 @@ fn damage(desk: &mut Desk, there: &[Command], calls: u64) {
                 "the model takes a block damaged by {kind:?} for good"
             ));
         }
-        // Legal flags leave a good block, unless a record then meets its like.
-        if good == (kind == Damage::LegalFlags) {
+        // What is legal leaves a good block, unless a record's flags are then its
+        // neighbour's.
+        if good == kind.legal() {
             met[which] += 1;
         }
         for &command in there {
@@ -466,10 +471,10 @@ fn fills(desk: &mut Desk, there: &[Command], calls: u64) {
         met[1][t] += 1;
         let near = Near::to(&bytes);
         for &command in there {
-            // Fresh, set and convert do not look at the fill; searches have most to
-            // try.
+            // Fresh, the two sets and convert do not look at the fill; searches have
+            // most to try.
             let times = match command {
-                Command::Fresh | Command::Set | Command::Convert => 1,
+                Command::Fresh | Command::Set | Command::SetImageEnd | Command::Convert => 1,
                 Command::NextFree | Command::Find | Command::Allocate => 4,
                 _ => 2,
             };
@@ -478,6 +483,12 @@ fn fills(desk: &mut Desk, there: &[Command], calls: u64) {
                 let mut slip = slip(rng, 2);
                 desk.call(&call, &mut bytes.clone(), &mut slip);
             }
+        }
+        // More where there is no room for what is found.
+        let times = if t == TAKEN.capacity { 8 } else { 2 };
+        for _ in 0..times {
+            images::around(desk, rng, &near, &bytes);
+            wishes::inside(desk, rng, &bytes);
         }
     }
     let fewest = met.iter().flatten().min().expect("there are fills");

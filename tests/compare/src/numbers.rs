@@ -32,6 +32,7 @@ const SPECIAL: [u64; 18] = [
 /// What is known of the block that the next call gets.
 pub struct Near {
     limit: u64,
+    image_end: u64,
     edges: Vec<u64>,
     runs: Vec<Run>,
     nodes: Vec<u32>,
@@ -51,12 +52,13 @@ impl Near {
             }
         }
         let runs = Board::read(block).map_or(Vec::new(), |board| board.free_runs());
-        let limit = match block.len() {
-            BLOCK_LEN => get_u64(block, LIMIT_AT),
-            _ => u64::MAX,
+        let (limit, image_end) = match block.len() {
+            BLOCK_LEN => (get_u64(block, LIMIT_AT), get_u64(block, IMAGE_END_AT)),
+            _ => (u64::MAX, NO_IMAGE),
         };
         Near {
             limit,
+            image_end,
             edges,
             runs,
             nodes,
@@ -86,16 +88,11 @@ impl Near {
         }
     }
 
-    /// The limit or an address beside it.
-    fn at_the_limit(&self, rng: &mut Rng) -> u64 {
-        self.limit.wrapping_add(rng.below(3)).wrapping_sub(1)
-    }
-
     /// A start in a free run, and the run's end or an address beside it.
     fn at_a_run_end(&self, rng: &mut Rng) -> (u64, u64) {
         let run = self.runs[rng.index(self.runs.len())];
         let (lo, hi) = (run.lo as u64, run.hi as u64);
-        let end = hi.wrapping_add(rng.below(3)).wrapping_sub(1);
+        let end = rng.beside(hi);
         (lo + rng.below(hi - lo), end)
     }
 
@@ -251,17 +248,16 @@ impl Near {
         let start = match rng.below(12) {
             0..=6 => 0,
             7 => rng.pick(&[4095, 4096, 4097]),
-            8 => self.at_the_limit(rng),
+            8 => rng.beside(self.limit),
+            9 => rng.beside(self.image_end),
             _ => self.address(rng),
         };
-        let end = match rng.below(12) {
+        let end = match rng.below(13) {
             0..=4 => 0,
             5 => u64::MAX,
-            6 | 7 => self.at_the_limit(rng),
-            8 => start
-                .wrapping_add(size)
-                .wrapping_add(rng.below(3))
-                .wrapping_sub(1),
+            6 | 7 => rng.beside(self.limit),
+            8 => rng.beside(self.image_end),
+            9 => rng.beside(start.wrapping_add(size)),
             _ => self.address(rng),
         };
         let (start, end) = match rng.below(8) {
@@ -291,6 +287,13 @@ impl Near {
                     rng.pick(&[2, 3, 256, 1 << 31, u32::MAX])
                 } else {
                     rng.below(2) as u32
+                },
+            },
+            Command::SetImageEnd => Call::SetImageEnd {
+                end: match rng.below(5) {
+                    0 => NO_IMAGE,
+                    1 => rng.beside(self.limit),
+                    _ => self.address(rng),
                 },
             },
             Command::Add => {

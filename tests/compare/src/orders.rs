@@ -117,6 +117,7 @@ fn predicted(start: &[u8], entries: &[Entry]) -> Option<Vec<u8>> {
         taken: read_recs(start, &TAKEN),
         limit: get_u64(start, LIMIT_AT),
         direction: get_u32(start, DIRECTION_AT),
+        image_end: get_u64(start, IMAGE_END_AT),
     };
     Some(draft.bytes())
 }

@@ -51,6 +51,11 @@ impl Rng {
         self.next() >> shift
     }
 
+    /// The number or one beside it.
+    pub fn beside(&mut self, x: u64) -> u64 {
+        x.wrapping_add(self.below(3)).wrapping_sub(1)
+    }
+
     pub fn bytes(&mut self, len: usize) -> Vec<u8> {
         (0..len).map(|_| self.next() as u8).collect()
     }

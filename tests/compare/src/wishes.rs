@@ -3,6 +3,9 @@
 
 use crate::blocks::{get_u32, get_u64, read_recs};
 use crate::call::{Call, Command};
+use crate::desk::Desk;
+use crate::numbers::slip;
+use crate::rng::Rng;
 use model::layout::*;
 use model::Query;
 
@@ -133,14 +136,36 @@ fn place(block: &[u8], query: &Query, up: bool) -> Option<u32> {
         named => named.min(limit),
     };
     let (size, step) = (u128::from(query.size), u128::from(query.alignment));
-    let fits = |&&(lo, hi, _): &&(u64, u64, u32)| {
-        let lo = start.max(lo.into()).div_ceil(step) * step;
-        lo + size <= hi.min(end).into()
+    let fits = |from: u128| {
+        move |&&(lo, hi, _): &&(u64, u64, u32)| {
+            let lo = from.max(lo.into()).div_ceil(step) * step;
+            lo + size <= hi.min(end).into()
+        }
     };
     let ranges = untaken(block, query.node);
-    let first = match up {
-        true => ranges.iter().find(fits),
-        false => ranges.iter().rev().find(fits),
+    let image_end = get_u64(block, IMAGE_END_AT).into();
+    let above = match up {
+        true => ranges.iter().find(fits(start.max(image_end))),
+        false => None,
     };
+    let first = above.or_else(|| ranges.iter().rev().find(fits(start)));
     first.map(|range| range.2)
+}
+
+/// A search of one record's memory alone, with any wish, so that its flags decide.
+pub fn inside(desk: &mut Desk, rng: &mut Rng, block: &[u8]) {
+    let memory = read_recs(block, &MEMORY);
+    if memory.is_empty() {
+        return;
+    }
+    let rec = rng.pick(&memory);
+    let query = Query {
+        size: 1,
+        alignment: 1,
+        start: rec.base,
+        end: rec.end(),
+        node: ANY_NODE,
+        wish: rng.index(ALL_WISHES) as u32,
+    };
+    desk.call(&Call::Find(query), &mut block.to_vec(), &mut slip(rng, 0));
 }

@@ -138,6 +138,7 @@ pub struct Board {
     pub taken: Line<bool>,
     pub limit: u64,
     pub direction: Direction,
+    pub image_end: u64,
 }
 
 /// A longest range of untaken memory, not no-map, of one tag.
@@ -173,6 +174,7 @@ impl Board {
             taken: Line::all(false),
             limit: FRESH_LIMIT,
             direction: Direction::TopDown,
+            image_end: NO_IMAGE,
         }
     }
 
@@ -185,12 +187,12 @@ impl Board {
     }
 
     /// The same of an edition 1 block, by document 01: what later requests let a
-    /// good block say does not count. Flags are 0 or 4, and the u64 at 72 is 0.
+    /// good block say does not count. Flags are 0 or 4, and there is no image end.
     pub fn read_edition_1(old: &[u8]) -> Option<Board> {
         let board = Board::read_as(&EDITION_1, old)?;
         let flags = |record: (u64, u64, u32, u32)| EDITION_1_FLAGS.contains(&record.2);
         let by_document_01 =
-            records(old, &EDITION_1.memory)?.all(flags) && long(old, ZERO_LONG_AT) == 0;
+            records(old, &EDITION_1.memory)?.all(flags) && board.image_end == NO_IMAGE;
         by_document_01.then_some(board)
     }
 
@@ -212,6 +214,7 @@ impl Board {
             taken: Line::drawn(false, taken)?,
             limit: long(block, LIMIT_AT),
             direction: Direction::named(word(block, DIRECTION_AT))?,
+            image_end: long(block, IMAGE_END_AT),
         };
         (board.write_as(layout).ok()? == block).then_some(board)
     }
@@ -231,6 +234,7 @@ impl Board {
             DIRECTION_AT,
             &self.direction.word().to_le_bytes(),
         );
+        put(&mut block, IMAGE_END_AT, &self.image_end.to_le_bytes());
         let memory = self
             .memory
             .stretches()

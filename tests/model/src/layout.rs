@@ -58,7 +58,8 @@ impl Layout {
     }
 }
 
-/// Document 01's block, which only convert reads.
+/// Document 01's block, which only convert reads; it has zero in the place of the
+/// image end.
 pub const EDITION_1: Layout = Layout::new(1, 128, 128);
 /// The flags of an edition 1 block's memory records, whatever later requests
 /// allow in others.
@@ -74,12 +75,15 @@ pub const BLOCK_LEN: usize = CURRENT.length();
 pub const LIMIT_AT: usize = 40;
 pub const DIRECTION_AT: usize = 48;
 pub const ZERO_WORD_AT: usize = 52;
-pub const ZERO_LONG_AT: usize = 72;
+/// The image end, since request E7.
+pub const IMAGE_END_AT: usize = 72;
 
 pub const SLIP_LEN: usize = 16;
 
 /// The limit of a fresh block.
 pub const FRESH_LIMIT: u64 = u64::MAX;
+/// The image end where there is no image: of a fresh block, and of a converted one.
+pub const NO_IMAGE: u64 = 0;
 
 /// The flags of memory, since request E6; a word of flags is a sum of them, each
 /// once at most.

@@ -1,7 +1,8 @@
 //! A second program for the memory tables of document 01, the E820 intake of
 //! request E1, the limit of request E3, the larger block of request E4, the run's
-//! end of request E5 and the flags and wishes of request E6, written from those
-//! pages alone, to be compared with the library call by call.
+//! end of request E5, the flags and wishes of request E6 and the image end of
+//! request E7, written from those pages alone, to be compared with the library call
+//! by call.
 //!
 //! It shares no idea with a program that walks tables of records: a table is a
 //! map from boundary points to states, a search looks at whole free runs and
@@ -51,6 +52,14 @@ pub fn set(block: &mut [u8], limit: u64, direction: u32) -> u32 {
         board.limit = limit;
         board.direction = Direction::named(direction).ok_or(BAD_DIRECTION)?;
         Ok(board)
+    });
+    settle(block, after)
+}
+
+pub fn set_image_end(block: &mut [u8], end: u64) -> u32 {
+    let after = good(block).map(|mut board| {
+        board.image_end = end;
+        board
     });
     settle(block, after)
 }
@@ -169,22 +178,26 @@ fn place(board: &Board, query: &Query) -> Result<(u128, u128), u32> {
     let start = u128::from(query.start).max(LOWEST_START);
     let end = u128::from(end).max(start);
 
-    let offers = board
-        .free_runs()
-        .into_iter()
-        .filter(wanted)
-        .filter_map(|run| {
+    // What the runs offer from an address on: each the lowest and the highest, and
+    // where it ends.
+    let offers = |from: u128| {
+        let runs = board.free_runs().into_iter().filter(&wanted);
+        runs.filter_map(move |run| {
             // The multiples k * step with lo <= k * step and k * step + size <= hi.
-            let lo = run.lo.max(start);
+            let lo = run.lo.max(from);
             let hi = run.hi.min(end);
             let least = lo.div_ceil(step);
             let greatest = hi.checked_sub(size)? / step;
             (least <= greatest).then_some((least * step, greatest * step, run.hi))
-        });
+        })
+    };
     // No two runs offer the same address, so the run's end decides nothing.
+    let lowest = |from| offers(from).map(|(lowest, _, end)| (lowest, end)).min();
+    let highest = |from| offers(from).map(|(_, highest, end)| (highest, end)).max();
     let chosen = match board.direction {
-        Direction::BottomUp => offers.map(|(lowest, _, end)| (lowest, end)).min(),
-        Direction::TopDown => offers.map(|(_, highest, end)| (highest, end)).max(),
+        Direction::TopDown => highest(start),
+        // Above the image, then the other way.
+        Direction::BottomUp => lowest(start.max(board.image_end.into())).or_else(|| highest(start)),
     };
     chosen.ok_or(NO_ADDRESS)
 }

@@ -61,6 +61,7 @@ struct Toy {
     taken: Vec<bool>,
     limit: u64,
     direction: u32,
+    image_end: u64,
 }
 
 impl Toy {
@@ -72,6 +73,7 @@ impl Toy {
             taken: vec![false; width],
             limit: u64::MAX,
             direction: 0,
+            image_end: 0,
         }
     }
 
@@ -148,7 +150,7 @@ impl Toy {
         head.extend(self.direction.to_le_bytes());
         head.extend([0; 4]);
         head.extend(totals);
-        head.extend([0; 8]);
+        head.extend(self.image_end.to_le_bytes());
         head.extend(bodies);
         Some(head)
     }
@@ -197,15 +199,17 @@ impl Toy {
         if query.size == 0 {
             return Err(4);
         }
-        let mut fits = (0..self.memory.len())
+        let fits: Vec<u128> = (0..self.memory.len())
             .map(|i| self.address(i))
-            .filter(|&a| self.eligible(a, query));
-        let a = if self.direction == 1 {
-            fits.next()
-        } else {
-            fits.next_back()
+            .filter(|&a| self.eligible(a, query))
+            .collect();
+        // Up from the image end; where nothing is left there, or top-down, from above.
+        let above = fits.iter().find(|&&a| a >= self.image_end.into());
+        let a = match self.direction {
+            1 if above.is_some() => above,
+            _ => fits.last(),
         };
-        let a = a.ok_or(5u32)?;
+        let a = *a.ok_or(5u32)?;
         Ok((a as u64, self.run_end(a)))
     }
 
@@ -442,9 +446,12 @@ fn inside_a_run(rng: &mut Rng, toy: &Toy) -> u64 {
     first as u64 + 1
 }
 
-fn walk(seed: u64, origin: u128, steps: usize, seen: &mut [[u64; 9]; 12]) {
+fn walk(seed: u64, origin: u128, steps: usize, seen: &mut [[u64; 9]; 13]) {
     let mut rng = Rng(seed);
     let mut toy = start_toy(&mut rng, origin, MOST, &FLAGS);
+    if !rng.one_in(3) {
+        toy.image_end = some_number(&mut rng, &toy);
+    }
     let mut block = toy.block().expect("no more records than fit");
     assert!(model::Board::read(&block).is_some());
     for step in 0..steps {
@@ -468,7 +475,7 @@ fn walk(seed: u64, origin: u128, steps: usize, seen: &mut [[u64; 9]; 12]) {
         let mut next = toy.clone();
         let before = (toy.clone(), block.clone());
         let mut said = block.clone();
-        let command = rng.below(12) as usize;
+        let command = rng.below(13) as usize;
         let (got, wanted) = match command {
             0 if rng.one_in(20) => {
                 next = Toy::new(origin, WINDOW);
@@ -581,6 +588,10 @@ fn walk(seed: u64, origin: u128, steps: usize, seen: &mut [[u64; 9]; 12]) {
                 slip_wanted = wanted;
                 (model::find(&said, &query, &mut slip), number)
             }
+            11 => {
+                toy.image_end = some_number(&mut rng, &toy);
+                (model::set_image_end(&mut said, toy.image_end), 0)
+            }
             _ => {
                 let query = some_query(&mut rng, &toy);
                 let answer = toy.find(&query).and_then(|(a, end)| {
@@ -614,7 +625,7 @@ fn walk(seed: u64, origin: u128, steps: usize, seen: &mut [[u64; 9]; 12]) {
 
 #[test]
 fn random_walks_address_by_address() {
-    let mut seen = [[0; 9]; 12];
+    let mut seen = [[0; 9]; 13];
     for seed in 0..600 {
         let origin = [
             4096 - 40,
@@ -637,7 +648,8 @@ fn random_walks_address_by_address() {
         (8, vec![0, 3]),
         (9, vec![0, 2, 5]),
         (10, vec![0, 2, 3, 4, 5]),
-        (11, vec![0, 2, 3, 4, 5, 6]),
+        (11, vec![0]),
+        (12, vec![0, 2, 3, 4, 5, 6]),
     ] {
         for number in numbers {
             assert!(
@@ -650,7 +662,8 @@ fn random_walks_address_by_address() {
 }
 
 /// Toys as edition 1 blocks: converted they are the same toy's block, with every
-/// bit of the header changed in turn only where the bit is of limit or direction.
+/// bit of the header changed in turn only where the bit is of limit or direction,
+/// never where it would be of the image end.
 #[test]
 fn conversions_bit_by_bit() {
     let any = |rng: &mut Rng| -> Vec<u8> {
@@ -751,7 +764,8 @@ fn flags_record_by_record() {
 }
 
 /// All memory over four addresses around 4096, of all flags or taken, with every
-/// wish: all searches of one and two addresses in both directions, and next free.
+/// wish: all searches of one and two addresses in both directions, without an image and
+/// with one that ends between them, and next free.
 #[test]
 fn every_small_wish() {
     const WIDE: usize = 4;
@@ -772,8 +786,9 @@ fn every_small_wish() {
             };
             toy.taken[i] = state == 9;
         }
-        for direction in [0, 1] {
+        for (direction, image_end) in [(0, 0), (1, 0), (0, FIRST + 2), (1, FIRST + 2)] {
             toy.direction = direction;
+            toy.image_end = image_end;
             let block = toy.block().unwrap();
             for wish in 0..4 {
                 for size in 1..=2 {
@@ -803,13 +818,14 @@ fn every_small_wish() {
             }
         }
     }
-    assert_eq!(searches, 10_000 * 4 * 5);
+    assert_eq!(searches, 10_000 * 4 * 10);
     // Wish 1 grants four of the flags, 0 and 3 grant two, 2 grants one.
     let [none, hotplug, mirror, both] = given;
     assert!(hotplug > none && none == both && both > mirror && mirror > 0);
 }
 
-/// All tables over five addresses around 4096, all small searches on them.
+/// All tables over five addresses around 4096, all small searches on them, without an
+/// image and with one that ends in their middle.
 #[test]
 fn every_small_search() {
     const WIDE: usize = 5;
@@ -826,8 +842,9 @@ fn every_small_search() {
             if (0..WIDE).any(|i| toy.taken[i] && toy.memory[i].is_none()) {
                 continue;
             }
-            for direction in [0, 1] {
+            for (direction, image_end) in [(0, 0), (1, 0), (0, 4097), (1, 4097)] {
                 toy.direction = direction;
+                toy.image_end = image_end;
                 let block = toy.block().unwrap();
                 for size in 1..=3 {
                     for alignment in [1, 2] {
@@ -857,11 +874,12 @@ fn every_small_search() {
             }
         }
     }
-    assert_eq!(searches, 7usize.pow(5) * 60);
+    assert_eq!(searches, 7usize.pow(5) * 120);
 }
 
 /// All memory over five addresses around 4096, with every limit, start and end
-/// on both sides of each of them.
+/// on both sides of each of them, without an image and with one that ends in their
+/// middle.
 #[test]
 fn every_small_limit() {
     const WIDE: usize = 5;
@@ -880,9 +898,10 @@ fn every_small_limit() {
         for i in 0..WIDE {
             toy.memory[i] = (memory >> i & 1 == 1).then_some((0, 0));
         }
-        for direction in [0, 1] {
+        for (direction, image_end) in [(0, 0), (1, 0), (0, FIRST + 2), (1, FIRST + 2)] {
             for &limit in &edges {
                 toy.direction = direction;
+                toy.image_end = image_end;
                 toy.limit = limit;
                 let block = toy.block().unwrap();
                 let mut unlimited = toy.clone();
@@ -917,7 +936,7 @@ fn every_small_limit() {
             }
         }
     }
-    assert_eq!(searches, 32 * 2 * 11usize.pow(3) * 3);
+    assert_eq!(searches, 32 * 4 * 11usize.pow(3) * 3);
     assert!(
         cut > searches / 20,
         "the limit cut only {cut} of {searches}"
@@ -925,6 +944,88 @@ fn every_small_limit() {
     assert!(
         behind.iter().all(|&runs| runs > searches / 200),
         "only {behind:?} runs of {searches} end behind limit or named end"
+    );
+}
+
+/// All memory over five addresses around 4096 and what is taken of it, with every image
+/// end, start and end on both sides of each of them, in both directions.
+#[test]
+fn every_small_image() {
+    const WIDE: usize = 5;
+    const FIRST: u64 = 4096 - 1;
+    let beside = FIRST - 1..=FIRST + WIDE as u64 + 1;
+    let windows: Vec<u64> = [0].into_iter().chain(beside).collect();
+    let images = [&windows[..], &[1, u64::MAX]].concat();
+    let mut searches = 0;
+    // Bottom-up with an image: answers not below its end, and of these others than
+    // without it; answers the other way, of these others than the lowest, and those that
+    // reach past the image end; none at all.
+    let mut met = [0; 6];
+    for states in 0..3usize.pow(WIDE as u32) {
+        let mut toy = Toy::new(FIRST.into(), WIDE);
+        for i in 0..WIDE {
+            let state = states / 3usize.pow(i as u32) % 3;
+            toy.memory[i] = (state > 0).then_some((0, 0));
+            toy.taken[i] = state == 2;
+        }
+        for direction in [0, 1] {
+            toy.direction = direction;
+            toy.image_end = 0;
+            let plain = toy.clone();
+            for &image_end in &images {
+                toy.image_end = image_end;
+                let block = toy.block().unwrap();
+                for &start in &windows {
+                    for &end in &windows {
+                        for (size, alignment) in [(1, 1), (2, 1), (3, 1), (1, 2), (2, 2)] {
+                            let query = Query {
+                                size,
+                                alignment,
+                                start,
+                                end,
+                                node: ANY,
+                                wish: 0,
+                            };
+                            let found = toy.find(&query);
+                            let (number, slip_wanted) = slip_of(found);
+                            let mut slip = [9; 16];
+                            assert_eq!(model::find(&block, &query, &mut slip), number);
+                            assert_eq!(slip[..], slip_wanted[..]);
+                            searches += 1;
+                            let without = plain.find(&query);
+                            if direction == 0 {
+                                assert_eq!(found, without);
+                                continue;
+                            }
+                            let another = found != without;
+                            let holds = match found {
+                                _ if image_end == 0 => [false; 6],
+                                Ok((a, _)) if a >= image_end => {
+                                    [true, another, false, false, false, false]
+                                }
+                                Ok((a, _)) => {
+                                    let past = a + size > image_end;
+                                    [false, false, true, another, past, false]
+                                }
+                                Err(_) => [false, false, false, false, false, true],
+                            };
+                            for (count, holds) in met.iter_mut().zip(holds) {
+                                *count += usize::from(holds);
+                            }
+                        }
+                    }
+                    let (number, slip_wanted) = slip_of(plain.next_free(start, ANY, 0));
+                    let mut slip = [9; 16];
+                    let said = model::next_free(&block, start, ANY, 0, &mut slip);
+                    assert_eq!((said, &slip[..]), (number, &slip_wanted[..]));
+                }
+            }
+        }
+    }
+    assert_eq!(searches, 3usize.pow(5) * 2 * 11 * 9 * 9 * 5);
+    assert!(
+        met.iter().all(|&count| count >= 2000),
+        "only {met:?} of {searches}"
     );
 }
 

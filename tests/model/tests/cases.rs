@@ -1,8 +1,8 @@
 //! Document 01's own examples: the printed block, the twelve cases, the table
 //! of numbers on both sides, and the slips already paid for, on the block of
 //! request E4. Then the E820 intake of request E1, the limit of request E3, the
-//! conversion of request E4, the run's end of request E5 and the flags and wishes
-//! of request E6, each rule on both sides of its edge.
+//! conversion of request E4, the run's end of request E5, the flags and wishes of
+//! request E6 and the image end of request E7, each rule on both sides of its edge.
 
 use model::layout::*;
 use model::Query;
@@ -361,8 +361,9 @@ fn number_1_fresh_asks_only_for_the_length() {
 
 /// Every command on one block, with numbers that would be done on a good one.
 fn all_commands(block: &[u8]) -> Vec<u32> {
-    let changes: [fn(&mut [u8]) -> u32; 9] = [
+    let changes: [fn(&mut [u8]) -> u32; 10] = [
         |b| model::set(b, 5, 1),
+        |b| model::set_image_end(b, 5),
         |b| model::add(b, 0x30000, 1, 0, 0),
         |b| model::remove(b, 0x10000, 1),
         |b| model::mark(b, 0x10000, 1, NO_MAP),
@@ -394,10 +395,10 @@ fn number_1_every_way_a_block_can_be_bad() {
     assert_eq!(model::add(&mut good, 0x20000, 0x1000, 4, 63), 0);
     assert_eq!(model::add(&mut good, 0x40000, 0x1000, 0, 0), 0);
     assert_eq!(model::reserve(&mut good, 0x50000, 0x10), 0);
-    assert_eq!(all_commands(&good), [0; 12]);
+    assert_eq!(all_commands(&good), [0; 13]);
 
     let bad = |what: &str, block: &[u8]| {
-        assert_eq!(all_commands(block), [1; 12], "{what}");
+        assert_eq!(all_commands(block), [1; 13], "{what}");
     };
     let put = |at: usize, bytes: &[u8]| {
         let mut block = good.clone();
@@ -439,8 +440,6 @@ fn number_1_every_way_a_block_can_be_bad() {
         (48, 2),
         (48, u32::MAX),
         (52, 1),
-        (72, 1),
-        (76, 1 << 31),
         // illegal flags and nodes in memory, any tag in taken
         (80 + 16, 8),
         (80 + 16, 12),
@@ -468,11 +467,15 @@ fn number_1_every_way_a_block_can_be_bad() {
             bad("total", &put(at, &wrong.to_le_bytes()));
         }
     }
-    // Any limit and either direction are good.
+    // Any limit, either direction and any image end are good.
     for (limit, direction) in [(0, 0), (1, 1), (u64::MAX, 1)] {
         let mut block = good.clone();
         assert_eq!(model::set(&mut block, limit, direction), 0);
         assert!(model::Board::read(&block).is_some());
+    }
+    for end in [1u64, 4096, 1 << 32, 1 << 63, u64::MAX] {
+        let block = put(72, &end.to_le_bytes());
+        assert_eq!(all_commands(&block), [0; 13]);
     }
 }
 
@@ -1472,8 +1475,8 @@ fn convert_1_every_way_an_old_block_can_be_bad() {
 
 #[test]
 fn no_other_command_takes_an_old_block() {
-    assert_eq!(all_commands(&printed()), [0; 12]);
-    assert_eq!(all_commands(&printed_old()), [1; 12]);
+    assert_eq!(all_commands(&printed()), [0; 13]);
+    assert_eq!(all_commands(&printed_old()), [1; 13]);
     assert_eq!(model::fresh(&mut printed_old()), 1);
 }
 
@@ -1732,7 +1735,7 @@ fn flags_of_a_good_block() {
         let good = flags <= 7;
         assert_eq!(model::Board::read(&block).is_some(), good, "{flags:#x}");
         if !good {
-            assert_eq!(all_commands(&block), [1; 12]);
+            assert_eq!(all_commands(&block), [1; 13]);
         }
         // In the taken table any flag is one too many.
         let block = raw(&[], &[(0x1000, 0x1000, flags, 0)]);
@@ -2130,4 +2133,345 @@ fn convert_takes_no_flag_of_request_e6() {
         let number = convert(&to_old(&raw(&list, &[])), &mut any_bytes());
         assert_eq!(number, u32::from(!by_document_01));
     }
+}
+
+// Request E7: bottom-up above the image, then the other way.
+
+const IMAGE_ENDS: [u64; 8] = [0, 1, 4095, 4096, 0x18000, 1 << 32, 1 << 63, u64::MAX];
+
+fn with_image(mut block: Vec<u8>, end: u64) -> Vec<u8> {
+    assert_eq!(model::set_image_end(&mut block, end), 0);
+    block
+}
+
+#[test]
+fn image_end_of_request_e7() {
+    assert_eq!(IMAGE_END_AT, 72);
+    assert_eq!(long(&fresh(), 72), 0);
+}
+
+#[test]
+fn image_end_is_stored_and_all_else_stays() {
+    for start in [m(), case_4_tables(), comb(), taken_comb(), all_flags()] {
+        for direction in [TOP_DOWN, BOTTOM_UP] {
+            let mut start = start.clone();
+            assert_eq!(model::set(&mut start, 0x1234, direction), 0);
+            for end in IMAGE_ENDS {
+                let mut wanted = start.clone();
+                wanted[72..80].copy_from_slice(&end.to_le_bytes());
+                assert_eq!(with_image(start.clone(), end), wanted);
+                // From one image end to any other.
+                for next in IMAGE_ENDS {
+                    let block = with_image(wanted.clone(), next);
+                    assert_eq!(block, with_image(start.clone(), next));
+                }
+            }
+        }
+    }
+}
+
+#[test]
+fn image_end_refuses_a_bad_block_alone() {
+    let good = case_4_tables();
+    let mut damaged = good.clone();
+    damaged[52] = 1;
+    for bad in [
+        vec![],
+        good[..15439].to_vec(),
+        [&good[..], &[0]].concat(),
+        good[..6224].to_vec(),
+        to_old(&good),
+        damaged,
+    ] {
+        for end in IMAGE_ENDS {
+            let mut block = bad.clone();
+            assert_eq!(model::set_image_end(&mut block, end), 1);
+            assert_eq!(block, bad);
+        }
+    }
+}
+
+#[test]
+fn fresh_has_no_image_and_other_commands_keep_it() {
+    for end in IMAGE_ENDS {
+        let mut block = with_image(m(), end);
+        assert_eq!(model::set(&mut block, 0x1_0000_0000, BOTTOM_UP), 0);
+        assert_eq!(long(&block, 72), end);
+        assert_eq!(model::set(&mut block, u64::MAX, TOP_DOWN), 0);
+        assert_eq!(block, with_image(m(), end));
+        // A refusal keeps it too.
+        assert_eq!(model::set(&mut block, 0, 2), 7);
+        assert_eq!(model::add(&mut block, 0, 1, 8, 0), 2);
+        let changes: [fn(&mut [u8]) -> u32; 9] = [
+            |b| model::add(b, 0x30000, 1, 0, 0),
+            |b| model::remove(b, 0x10000, 1),
+            |b| model::mark(b, 0x10001, 1, NO_MAP),
+            |b| model::unmark(b, 0x10000, 2, NO_MAP),
+            |b| model::reserve(b, 0x10000, 2),
+            |b| model::free(b, 0x10000, 1),
+            |b| model::trim(b, 4096),
+            |b| model::intake_e820(b, &report(&[(0x40000, 0x1000, 1)])),
+            |b| allocate(b, &query(1, 1)).err().unwrap_or(0),
+        ];
+        for change in changes {
+            let mut plain = with_image(block.clone(), NO_IMAGE);
+            assert_eq!(change(&mut plain), 0);
+            assert_eq!(change(&mut block), 0);
+            assert_eq!(block, with_image(plain, end));
+        }
+        assert_eq!(model::fresh(&mut block), 0);
+        assert_eq!(block, fresh());
+    }
+}
+
+#[test]
+fn convert_takes_no_image_end() {
+    for bit in 0..64 {
+        let mut old = printed_old();
+        old[72 + bit / 8] = 1 << (bit % 8);
+        assert_eq!(convert(&old, &mut any_bytes()), 1, "bit {bit}");
+    }
+    // What stood there before leaves nothing behind.
+    let mut block = with_image(m(), u64::MAX);
+    assert_eq!(convert(&printed_old(), &mut block), 0);
+    assert_eq!(block, printed());
+}
+
+/// Two runs: [0x10000, 0x18000) and [0x19000, 0x20000).
+const TWO: [(u64, u64); 2] = [(0x10000, 0x18000), (0x19000, 0x20000)];
+
+/// What find and allocate give with an image end, bottom-up first.
+fn both_above(
+    ranges: &[(u64, u64)],
+    image_end: u64,
+    query: &Query,
+) -> [Result<(u64, u64), u32>; 2] {
+    both_runs(&with_image(memory(ranges), image_end), u64::MAX, query)
+}
+
+#[test]
+fn image_end_below_at_inside_and_above_each_run() {
+    let (low, high) = (0x18000, 0x20000);
+    // Sizes of 0x1000, alignment 1: what bottom-up gives, and the end of its run.
+    for (image_end, wanted) in [
+        (0, (0x10000, low)),
+        (1, (0x10000, low)),
+        (0xFFFF, (0x10000, low)),
+        (0x10000, (0x10000, low)),
+        (0x10001, (0x10001, low)),
+        (0x16FFF, (0x16FFF, low)),
+        // The last that has room for the size in the first run.
+        (0x17000, (0x17000, low)),
+        (0x17001, (0x19000, high)),
+        (0x17FFF, (0x19000, high)),
+        (0x18000, (0x19000, high)),
+        (0x18FFF, (0x19000, high)),
+        (0x19000, (0x19000, high)),
+        (0x19001, (0x19001, high)),
+        (0x1F000, (0x1F000, high)),
+        // Above it there is nothing more: the highest of all.
+        (0x1F001, (0x1F000, high)),
+        (0x1FFFF, (0x1F000, high)),
+        (0x20000, (0x1F000, high)),
+        (0x20001, (0x1F000, high)),
+        (1 << 63, (0x1F000, high)),
+        (u64::MAX - 1, (0x1F000, high)),
+        (u64::MAX, (0x1F000, high)),
+    ] {
+        let answers = both_above(&TWO, image_end, &query(0x1000, 1));
+        assert_eq!(answers, [Ok(wanted), Ok((0x1F000, high))], "{image_end:#x}");
+    }
+}
+
+#[test]
+fn image_end_and_the_alignment() {
+    for (image_end, wanted) in [
+        (0x10000, 0x10000),
+        (0x10001, 0x12000),
+        (0x11FFF, 0x12000),
+        (0x12000, 0x12000),
+        (0x12001, 0x14000),
+        (0x16000, 0x16000),
+        // Of the first run nothing is left, of the second 0x1A000 on.
+        (0x16001, 0x1A000),
+        (0x1E000, 0x1E000),
+        (0x1E001, 0x1E000),
+    ] {
+        let [up, down] = both_above(&TWO, image_end, &query(0x1000, 0x2000));
+        assert_eq!(up.map(|found| found.0), Ok(wanted), "{image_end:#x}");
+        assert_eq!(down, Ok((0x1E000, 0x20000)));
+    }
+    // Rounded up past the top there is nothing above: the other way.
+    let page = u64::MAX - 4095;
+    let top = [(0x10000, 0x20000), (page, u64::MAX)];
+    for image_end in [page + 1, u64::MAX - 1, u64::MAX] {
+        let answers = both_above(&top, image_end, &query(0x800, 0x1000));
+        assert_eq!(answers, [Ok((page, u64::MAX)); 2]);
+        let answers = both_above(&top, image_end, &query(0x1000, 0x1000));
+        assert_eq!(answers, [Ok((0x1F000, 0x20000)); 2]);
+    }
+    let answers = both_above(&top, u64::MAX - 1, &query(1, 1));
+    assert_eq!(answers, [Ok((u64::MAX - 1, u64::MAX)); 2]);
+}
+
+#[test]
+fn the_other_way_gives_an_address_below_however_far_it_reaches() {
+    // The size fits one address alone, and reaches past the image end.
+    let whole = query(0x10000, 1);
+    for image_end in [0x10000, 0x10001, 0x18000, 0x1FFFF, 0x20000, u64::MAX] {
+        let answers = both_above(&M, image_end, &whole);
+        assert_eq!(answers, [Ok((0x10000, 0x20000)); 2]);
+    }
+    // The highest below the image, also where it ends above it.
+    for (image_end, size, wanted) in [
+        (0x1F801, 0x800, 0x1F800),
+        (0x1F801, 0x7FF, 0x1F801),
+        (0x1F802, 0x7FF, 0x1F801),
+        (0x1FFFF, 2, 0x1FFFE),
+        (0x1FFFF, 1, 0x1FFFF),
+    ] {
+        let [up, _] = both_above(&M, image_end, &query(size, 1));
+        assert_eq!(up, Ok((wanted, 0x20000)), "{image_end:#x} {size:#x}");
+    }
+}
+
+#[test]
+fn image_end_and_the_window() {
+    let window = |start, end| Query {
+        start,
+        end,
+        ..query(0x10, 1)
+    };
+    for (image_end, start, end, up, down) in [
+        // At or below the start it decides nothing.
+        (0x11FFF, 0x12000, 0x14000, Ok(0x12000), Ok(0x13FF0)),
+        (0x12000, 0x12000, 0x14000, Ok(0x12000), Ok(0x13FF0)),
+        (0x12001, 0x12000, 0x14000, Ok(0x12001), Ok(0x13FF0)),
+        // The last address of the window, and past it.
+        (0x13FF0, 0x12000, 0x14000, Ok(0x13FF0), Ok(0x13FF0)),
+        (0x13FF1, 0x12000, 0x14000, Ok(0x13FF0), Ok(0x13FF0)),
+        (0x14000, 0x12000, 0x14000, Ok(0x13FF0), Ok(0x13FF0)),
+        (0x1F000, 0x12000, 0x14000, Ok(0x13FF0), Ok(0x13FF0)),
+        // A window in which nothing is free, with free memory above the image.
+        (0x10000, 0x18000, 0x19000, Err(5), Err(5)),
+        (0x19000, 0x18000, 0x19000, Err(5), Err(5)),
+        (u64::MAX, 0x18000, 0x19000, Err(5), Err(5)),
+        // A window that ends below its start.
+        (0x12000, 0x12000, 0x11000, Err(5), Err(5)),
+    ] {
+        let asked = window(start, end);
+        let found = both_above(&TWO, image_end, &asked).map(|found| found.map(|(a, _)| a));
+        assert_eq!(
+            found,
+            [up, down],
+            "image {image_end:#x}, {start:#x} to {end:#x}"
+        );
+        // The same window by the limit.
+        let block = with_image(memory(&TWO), image_end);
+        for named in [0, u64::MAX] {
+            let found = both_runs(&block, end, &window(start, named));
+            assert_eq!(found.map(|found| found.map(|(a, _)| a)), [up, down]);
+        }
+    }
+    // Below 4096 the other way gives nothing either.
+    let low = [(0, 0x1001)];
+    for image_end in [0, 1, 0xFFF, 0x1000, 0x1001, u64::MAX] {
+        let answers = both_above(&low, image_end, &query(1, 1));
+        assert_eq!(answers, [Ok((0x1000, 0x1001)); 2]);
+        let answers = both_above(&low, image_end, &query(2, 1));
+        assert_eq!(answers, [Err(5); 2]);
+    }
+}
+
+#[test]
+fn number_5_only_where_the_whole_window_has_nothing() {
+    for image_end in IMAGE_ENDS.into_iter().chain([0x10001, 0x17FFF, 0x1FFFF]) {
+        let fits = both_above(&TWO, image_end, &query(0x8000, 1));
+        assert_eq!(fits, [Ok((0x10000, 0x18000)); 2], "{image_end:#x}");
+        let none = both_above(&TWO, image_end, &query(0x8001, 1));
+        assert_eq!(none, [Err(5); 2], "{image_end:#x}");
+        assert_eq!(both_above(&[], image_end, &query(1, 1)), [Err(5); 2]);
+    }
+}
+
+#[test]
+fn image_end_and_what_is_asked_for() {
+    // Above the image there is only memory that is not asked for.
+    let mut block = memory(&[(0x10000, 0x12000)]);
+    assert_eq!(model::add(&mut block, 0x20000, 0x1000, 0, 1), 0);
+    assert_eq!(model::add(&mut block, 0x21000, 0x1000, HOTPLUG, 0), 0);
+    assert_eq!(model::add(&mut block, 0x22000, 0x1000, NO_MAP, 0), 0);
+    assert_eq!(model::add(&mut block, 0x23000, 0x1000, 0, 0), 0);
+    assert_eq!(model::reserve(&mut block, 0x23000, 0x1000), 0);
+    let block = turned(with_image(block, 0x12000), BOTTOM_UP);
+    let asked = |node, wish| Query {
+        node,
+        wish,
+        ..query(0x10, 1)
+    };
+    assert_eq!(find(&block, &asked(0, 0)), Ok((0x11FF0, 0x12000)));
+    assert_eq!(find(&block, &asked(0, 1)), Ok((0x21000, 0x22000)));
+    assert_eq!(find(&block, &asked(1, 0)), Ok((0x20000, 0x21000)));
+    assert_eq!(find(&block, &asked(ANY_NODE, 0)), Ok((0x20000, 0x21000)));
+    assert_eq!(find(&block, &asked(0, 2)), Err(5));
+    assert_eq!(find(&block, &asked(2, 0)), Err(5));
+}
+
+#[test]
+fn next_free_takes_no_notice_of_the_image() {
+    for end in IMAGE_ENDS {
+        for direction in [TOP_DOWN, BOTTOM_UP] {
+            let block = turned(with_image(memory(&TWO), end), direction);
+            assert_eq!(next_free(&block, 0, ANY_NODE), Ok((0x10000, 0x18000)));
+            assert_eq!(next_free(&block, 0x17FFF, ANY_NODE), Ok((0x17FFF, 0x18000)));
+            assert_eq!(next_free(&block, 0x18000, ANY_NODE), Ok((0x19000, 0x20000)));
+            assert_eq!(next_free(&block, 0x20000, ANY_NODE), Err(5));
+        }
+    }
+}
+
+#[test]
+fn allocations_above_the_image_and_then_down_from_it() {
+    let mut block = turned(with_image(m(), 0x1C800), BOTTOM_UP);
+    let page = query(0x1000, 0x1000);
+    for wanted in [
+        (0x1D000, 0x20000),
+        (0x1E000, 0x20000),
+        (0x1F000, 0x20000),
+        // Nothing is left above: now the highest, which reaches past the image end.
+        (0x1C000, 0x1D000),
+        (0x1B000, 0x1C000),
+    ] {
+        assert_eq!(allocate(&mut block, &page), Ok(wanted));
+    }
+    // What is freed above the image is given first.
+    assert_eq!(model::free(&mut block, 0x1E000, 0x1000), 0);
+    assert_eq!(allocate(&mut block, &page), Ok((0x1E000, 0x1F000)));
+    assert_eq!(allocate(&mut block, &page), Ok((0x1A000, 0x1B000)));
+    // Turned round there is no image, and without one bottom-up begins at the bottom.
+    assert_eq!(model::set(&mut block, u64::MAX, TOP_DOWN), 0);
+    assert_eq!(allocate(&mut block, &page), Ok((0x19000, 0x1A000)));
+    let mut block = turned(with_image(block, 0), BOTTOM_UP);
+    assert_eq!(allocate(&mut block, &page), Ok((0x10000, 0x19000)));
+}
+
+#[test]
+fn number_6_speaks_of_the_other_way_too() {
+    // A full taken table; the highest address below the image needs a record more.
+    let mut block = taken_comb();
+    assert_eq!(model::add(&mut block, 0x1000, 0x1000, 0, 0), 0);
+    assert_eq!(model::add(&mut block, 0x200_0000, 0x3000, 0, 0), 0);
+    let mut block = turned(with_image(block, 0x300_0000), BOTTOM_UP);
+    assert_eq!(
+        find(&block, &query(0x1000, 1)),
+        Ok((0x200_2000, 0x200_3000))
+    );
+    assert_eq!(allocate(&mut block, &query(0x1000, 1)), Err(6));
+    // Above the image the address that would merge is found first, and there is room.
+    let mut block = with_image(block, 0x1000);
+    assert_eq!(
+        allocate(&mut block, &query(0x1000, 1)),
+        Ok((0x1000, 0x2000))
+    );
+    assert_eq!(records(&block, &TAKEN).len(), 511);
 }

@@ -63,6 +63,7 @@ struct Block {
     taken: Vec<Rec>,
     limit: u64,
     direction: u32,
+    image_end: u64,
 }
 
 fn u32_at(b: &[u8], at: usize) -> u32 {
@@ -91,8 +92,6 @@ fn parse_as(b: &[u8], edition: &Edition) -> Option<Block> {
         (28, 3152),
         (36, edition.capacity[1] as u32),
         (52, 0),
-        (72, 0),
-        (76, 0),
     ];
     // mutant 1: the word at 52 may hold anything
     // mutant 69: the edition may be any
@@ -110,11 +109,27 @@ fn parse_as(b: &[u8], edition: &Edition) -> Option<Block> {
     {
         return None;
     }
+    let image_end = u64_at(b, 72);
+    // mutant 111: a block with an image end is bad
+    // mutant 112: convert takes an old block with an image end
+    let imageless = match edition.number {
+        1 => !mutant(112),
+        _ => mutant(111),
+    };
+    if imageless && image_end != 0 {
+        return None;
+    }
+    // mutant 113: of the image end only the low half is read
+    let image_end = match mutant(113) {
+        true => image_end & u64::from(u32::MAX),
+        false => image_end,
+    };
     Some(Block {
         memory: parse_table(b, 0, edition)?,
         taken: parse_table(b, 1, edition)?,
         limit: u64_at(b, 40),
         direction: u32_at(b, 48),
+        image_end,
     })
 }
 
@@ -453,6 +468,39 @@ fn search(block: &Block, query: &Query) -> Option<(u64, u64)> {
     let end = end.max(start);
     // mutant 18: the direction is taken the wrong way round
     let bottom_up = (block.direction == 1) != mutant(18);
+    // mutant 114: an image end at or above the window's end counts as none
+    // mutant 115: the image end is rounded up to a page
+    // mutant 116: an address at the image end is not given, only one above it
+    // mutant 117: an address counts as above the image where its range ends above it
+    let image_end = match block.image_end {
+        image_end if mutant(114) && image_end >= end => 0,
+        image_end if mutant(115) => round_up(image_end, PAGE).unwrap_or(u64::MAX),
+        image_end if mutant(116) => image_end.saturating_add(1),
+        image_end if mutant(117) => image_end.saturating_sub(query.size - 1),
+        image_end => image_end,
+    };
+    let above = start.max(image_end);
+    if bottom_up {
+        // mutant 118: a bottom-up block answers 5 where all is below the image
+        // mutant 119: allocate answers 5 there
+        let gives_up = mutant(118) || mutant(119) && query.takes;
+        // mutant 120: the other way gives the lowest
+        // mutant 121: the other way gives no range that ends above the image
+        let to = if mutant(121) { end.min(above) } else { end };
+        walk(block, query, above, end, true).or_else(|| match gives_up {
+            true => None,
+            false => walk(block, query, start, to, mutant(120)),
+        })
+    } else {
+        // mutant 122: top-down gives nothing below the image
+        let from = if mutant(122) { above } else { start };
+        walk(block, query, from, end, false)
+    }
+}
+
+/// The first address that fits between start and end, going up or down, and the end of
+/// the gap that holds it.
+fn walk(block: &Block, query: &Query, start: u64, end: u64, bottom_up: bool) -> Option<(u64, u64)> {
     let mut memory = walked(&block.memory, query.wish);
     if !bottom_up {
         memory.reverse();
@@ -466,13 +514,19 @@ fn search(block: &Block, query: &Query) -> Option<(u64, u64)> {
             gaps.reverse();
         }
         for (lo, run_end) in gaps {
+            // mutant 137: a run that begins below the image gives nothing above it
+            if mutant(137) && bottom_up && lo < block.image_end {
+                continue;
+            }
             let lo = lo.max(start);
             let hi = run_end.min(end);
             // mutant 88: bottom-up the run's end is cut to the window
             // mutant 89: top-down the run's end is cut to the window
             // mutant 90: the run's end is cut to the limit
             // mutant 91: find and allocate answer the end of the record, not of the run
+            // mutant 123: a run that the image ends in is said to end there
             let run_end = match () {
+                _ if mutant(123) && lo < block.image_end => run_end.min(block.image_end),
                 _ if mutant(88) && bottom_up => hi,
                 _ if mutant(89) && !bottom_up => hi,
                 _ if mutant(90) => run_end.min(block.limit),
@@ -480,7 +534,12 @@ fn search(block: &Block, query: &Query) -> Option<(u64, u64)> {
                 _ => run_end,
             };
             if bottom_up {
-                let Some(a) = round_up(lo, query.alignment) else {
+                // mutant 138: an address at the image end need not be aligned
+                let aligned = match mutant(138) && lo == block.image_end {
+                    true => Some(lo),
+                    false => round_up(lo, query.alignment),
+                };
+                let Some(a) = aligned else {
                     continue;
                 };
                 if a < hi && hi - a >= query.size {
@@ -567,14 +626,23 @@ pub unsafe extern "C" fn memblock_fresh(block: *mut u8, len: usize) -> u32 {
     if len != NOW.len {
         return 1;
     }
+    let image_end = u64_at(b, 72);
     write_empty(b);
+    // mutant 124: fresh leaves what stands in the place of the image end
+    if mutant(124) {
+        put_image_end(b, image_end);
+    }
     // mutant 22: the limit of a fresh block is 2^63 - 1
     let limit = if mutant(22) { u64::MAX >> 1 } else { u64::MAX };
     b[40..48].copy_from_slice(&limit.to_le_bytes());
     0
 }
 
-/// A block with both tables empty, limit and direction 0.
+fn put_image_end(b: &mut [u8], end: u64) {
+    b[72..80].copy_from_slice(&end.to_le_bytes());
+}
+
+/// A block with both tables empty, limit, direction and image end 0.
 fn write_empty(b: &mut [u8]) {
     b.fill(0);
     // mutant 76: the taken capacity is stored as 511
@@ -624,7 +692,12 @@ pub unsafe extern "C" fn memblock_convert(
     let b = &mut b[..NOW.len];
     // mutant 81: what stood behind an edition 1 block's end stays
     let behind = b[OLD.len..].to_vec();
+    let image_end = u64_at(b, 72);
     write_empty(b);
+    // mutant 125: convert leaves what stands in the place of the image end
+    if mutant(125) {
+        put_image_end(b, image_end);
+    }
     put_table(b, 0, &tables.memory, false);
     put_table(b, 1, &tables.taken, false);
     if mutant(81) {
@@ -673,6 +746,36 @@ pub unsafe extern "C" fn memblock_set(
         return 7;
     }
     b[48..52].copy_from_slice(&direction.to_le_bytes());
+    // mutant 126: set clears the image end
+    if mutant(126) {
+        put_image_end(b, 0);
+    }
+    0
+}
+
+/// # Safety
+/// As above.
+#[no_mangle]
+pub unsafe extern "C" fn memblock_set_image_end(block: *mut u8, len: usize, end: u64) -> u32 {
+    let b = lent_mut(block, len);
+    // mutant 127: the image end is set in any bytes of a block's length
+    let let_through = mutant(127) && len == NOW.len;
+    let limit = match parse(b) {
+        Some(tables) => tables.limit,
+        None if let_through => u64::MAX,
+        None => return 1,
+    };
+    // mutant 128: an image end of 0 is refused
+    // mutant 129: an image end of 2^64 - 1 is refused
+    // mutant 130: an image end above the limit is refused
+    if mutant(128) && end == 0 || mutant(129) && end == u64::MAX || mutant(130) && end > limit {
+        return 1;
+    }
+    put_image_end(b, end);
+    // mutant 131: the image end turns the block bottom-up
+    if mutant(131) {
+        b[48] = 1;
+    }
     0
 }
 
@@ -699,6 +802,10 @@ pub unsafe extern "C" fn memblock_add(
         return 2;
     }
     let pieces = fill(&tables.memory, base, cut(base, size), flags, node);
+    // mutant 132: add clears the image end
+    if mutant(132) {
+        put_image_end(b, 0);
+    }
     store(b, 0, &pieces)
 }
 
@@ -826,6 +933,10 @@ pub unsafe extern "C" fn memblock_free(block: *mut u8, len: usize, base: u64, si
     if mutant(35) && tables.taken.iter().any(|r| r.base < end && end < r.end) {
         return 0;
     }
+    // mutant 133: free clears the image end
+    if mutant(133) {
+        put_image_end(b, 0);
+    }
     store(b, 1, &split(&tables.taken, base, end, |_| false))
 }
 
@@ -879,6 +990,12 @@ pub unsafe extern "C" fn memblock_next_free(
 fn next_run(tables: &Block, from: u64, node: u32, wish: u32) -> Option<(u64, u64)> {
     // mutant 100: next free takes no notice of the wish
     let wish = if mutant(100) { 1 } else { wish };
+    // mutant 134: next free gives nothing below the image
+    let from = if mutant(134) {
+        from.max(tables.image_end)
+    } else {
+        from
+    };
     for rec in &walked(&tables.memory, wish) {
         if !offered(rec, node, wish) {
             continue;
@@ -992,6 +1109,10 @@ pub unsafe extern "C" fn memblock_allocate(
     if mutant(94) && number == 0 {
         let after = parse(b).and_then(|tables| next_run(&tables, a, ANY, wish));
         end = after.map_or(a, |run| run.1);
+    }
+    // mutant 135: allocate moves the image end past what it gave
+    if mutant(135) && number == 0 {
+        put_image_end(b, a + size);
     }
     // mutant 33: allocate shows the address found when it refuses 6
     if number == 0 || mutant(33) {
@@ -1119,6 +1240,10 @@ pub unsafe extern "C" fn memblock_intake_e820(
         })
         .collect();
     put_table(b, 0, &list, false);
+    // mutant 136: an intake clears the image end
+    if mutant(136) {
+        put_image_end(b, 0);
+    }
     // mutant 58: the first byte of the report is written
     if mutant(58) && !r.is_empty() {
         report.cast_mut().write(r[0] ^ 1);

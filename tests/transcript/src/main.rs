@@ -5,10 +5,11 @@
 //! old block's sum, must be the line that stands there; the same for both tables at the end.
 //! Fails at the first difference, at a line it does not know, and when the
 //! transcript does not reach its end or leaves out a function, a number, a flag, a
-//! wish, or part of the memory map.
+//! wish, a way that a bottom-up allocation can go from the image's end, or part of the
+//! memory map.
 
 use model::layout::*;
-use model::{Board, Query};
+use model::{Board, Direction, Query};
 use std::collections::{BTreeMap, BTreeSet};
 use std::fmt::Write;
 use std::process::ExitCode;
@@ -22,9 +23,10 @@ const LEGACY: (u64, u64) = (0xa0000, 0x60000);
 /// The report's bytes: room for one entry too many.
 const REPORT_LEN: usize = (REPORT_ENTRIES + 1) * REPORT_ENTRY_LEN + GUARD;
 
-const FUNCTIONS: [&str; 14] = [
+const FUNCTIONS: [&str; 15] = [
     "memblock_fresh",
     "memblock_set",
+    "memblock_set_image_end",
     "memblock_add",
     "memblock_remove",
     "memblock_mark",
@@ -130,6 +132,10 @@ struct Replay {
     /// such an end.
     run_end: Option<u64>,
     went_on: bool,
+    /// Whether bottom-up allocations were done above the image in use, and the other
+    /// way, from whatever image end: not every board has memory below the image.
+    above: bool,
+    other_way: bool,
     /// The functions called with each last number, and not refused for it.
     words: BTreeSet<(String, u64)>,
     tables: BTreeSet<String>,
@@ -155,6 +161,8 @@ impl Replay {
             converted: 0,
             run_end: None,
             went_on: false,
+            above: false,
+            other_way: false,
             words: BTreeSet::new(),
             tables: BTreeSet::new(),
             ended: false,
@@ -317,6 +325,7 @@ impl Replay {
             ("memblock_set", &[limit, direction], None) => {
                 model::set(block, limit, narrow(direction)?)
             }
+            ("memblock_set_image_end", &[end], None) => model::set_image_end(block, end),
             ("memblock_add", &[base, size, flags, node], None) => {
                 model::add(block, base, size, narrow(flags)?, narrow(node)?)
             }
@@ -356,6 +365,14 @@ impl Replay {
         }
         if number == 0 {
             match (function, &name[..], ranged) {
+                ("memblock_allocate", "block", _) => {
+                    let board = Board::read(&buffer[..BLOCK_LEN]).ok_or("not a good block")?;
+                    let image = self.held.first().map(|held| held.0 + held.1);
+                    let bottom_up = board.direction == Direction::BottomUp;
+                    let above = half(0) >= board.image_end;
+                    self.above |= bottom_up && above && Some(board.image_end) == image;
+                    self.other_way |= bottom_up && !above;
+                }
                 ("memblock_add", "mirror", Some(range)) if self.same == 0 => self.added.push(range),
                 ("memblock_reserve", "block", Some(range)) => self.reserved.push(range),
                 ("memblock_intake_e820", ..) => {
@@ -418,6 +435,9 @@ impl Replay {
         if !self.went_on {
             return Err("next free did not go on from an allocation's run".into());
         }
+        if !self.above || !self.other_way {
+            return Err("no bottom-up allocation above the image, or none the other way".into());
+        }
         let flags = MARKS.iter().flat_map(|f| EACH_FLAG.map(|word| (f, word)));
         let wishes = SEARCHES
             .iter()
@@ -447,7 +467,7 @@ fn edition_1(block: &[u8]) -> Vec<u8> {
     old
 }
 
-/// The lines of both tables, totals, limit and direction.
+/// The lines of both tables, totals, limit, direction and image end.
 fn tables(board: &Board) -> Vec<String> {
     let mut lines = Vec::new();
     let (mut present, mut taken) = (0, 0);
@@ -465,11 +485,14 @@ fn tables(board: &Board) -> Vec<String> {
         }
     }
     let direction = match board.direction {
-        model::Direction::TopDown => 0,
-        model::Direction::BottomUp => 1,
+        Direction::TopDown => 0,
+        Direction::BottomUp => 1,
     };
     lines.push(format!("totals memory {present:#x} taken {taken:#x}"));
-    lines.push(format!("limit {:#x} direction {direction:#x}", board.limit));
+    lines.push(format!(
+        "limit {:#x} direction {direction:#x} image end {:#x}",
+        board.limit, board.image_end
+    ));
     lines
 }
 

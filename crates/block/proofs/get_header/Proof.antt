@@ -21,6 +21,9 @@ get-u64-requires-3 c κs = search needs
 get-u32-requires-3 : tie.Need-get-u32-requires-3
 get-u32-requires-3 c κs = search needs
 
+get-u64-requires-4 : tie.Need-get-u64-requires-4
+get-u64-requires-4 c κs = search needs
+
 returns : tie.Need-returns
 returns c = cc
 
@@ -34,4 +37,5 @@ get-header-spec =
     get-u64-requires-2
     get-u64-requires-3
     get-u32-requires-3
+    get-u64-requires-4
     returns)

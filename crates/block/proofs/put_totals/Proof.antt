@@ -10,8 +10,8 @@ put-u64-requires c κs = search needs
 put-u64-requires-2 : tie.Need-put-u64-requires-2
 put-u64-requires-2 c κs = search needs
 
-put-u64-requires-3 : tie.Need-put-u64-requires-3
-put-u64-requires-3 c κs = search needs
+put-image-end-requires : tie.Need-put-image-end-requires
+put-image-end-requires c κs = search needs
 
 same-length : tie.Need-same-length
 same-length c = search needs
@@ -21,4 +21,4 @@ returns c = rw (← totals-puts) (cc)
 
 pub put-totals-spec : {M : Type 1} → statement M
 put-totals-spec =
-    tie.close (tie.spec put-u64-requires put-u64-requires-2 put-u64-requires-3 same-length returns)
+    tie.close (tie.spec put-u64-requires put-u64-requires-2 put-image-end-requires same-length returns)

@@ -1,6 +1,6 @@
 -- `convert::good_one` meets its contract.
 use Rattle.block.proofs.Layouts.{small-one, small-as}
-use Rattle.convert.proofs.Converting.{old-header, old-memory, not-edition-one, edition-one, one-room, one-judged}
+use Rattle.convert.proofs.Converting.{old-header, old-memory, not-edition-one, edition-one, one-image, one-room, one-judged}
 use borrow.Author.Needs.{needs}
 use Rattle.convert.proofs.good_one.Statement.{statement}
 use Rattle.convert.proofs.good_one.Tie as tie
@@ -35,6 +35,9 @@ flags-one-requires c κs = search (one-room, needs)
 returns-2 : tie.Need-returns-2
 returns-2 c = search (one-judged, needs)
 
+returns-3 : tie.Need-returns-3
+returns-3 c = search (one-image, needs)
+
 pub good-one-spec : {M : Type 1} → statement M
 good-one-spec =
     tie.close
@@ -48,4 +51,5 @@ good-one-spec =
     part-flags-one-end
     cast-flags-one
     flags-one-requires
-    returns-2)
+    returns-2
+    returns-3)

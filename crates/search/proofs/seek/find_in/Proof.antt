@@ -1,6 +1,5 @@
 -- `search::seek::find_in` meets its contract.
-use Rattle.search.proofs.InBlock.{header-room, ready-window, find-first}
-use Rattle.runs.specs.declared.Way.the-variants.{Up, Down}
+use Rattle.search.proofs.InBlock.{header-room, ready-window, find-up, find-down}
 use borrow.Author.Needs.{needs}
 use Rattle.search.proofs.seek.find_in.Statement.{statement}
 use Rattle.search.proofs.seek.find_in.Tie as tie
@@ -15,13 +14,13 @@ first-in-requires : tie.Need-first-in-requires
 first-in-requires c κs = search (ready-window, needs)
 
 returns : tie.Need-returns
-returns c = search (find-first Up, needs)
+returns c = search (find-down, needs)
 
-first-in-requires-2 : tie.Need-first-in-requires-2
-first-in-requires-2 c κs = search (ready-window, needs)
+bottom-up-in-requires : tie.Need-bottom-up-in-requires
+bottom-up-in-requires c κs = search (ready-window, needs)
 
 returns-2 : tie.Need-returns-2
-returns-2 c = search (find-first Down, needs)
+returns-2 c = search (find-up, needs)
 
 pub find-in-spec : {M : Type 1} → statement M
 find-in-spec =
@@ -31,5 +30,5 @@ find-in-spec =
     window-requires
     first-in-requires
     returns
-    first-in-requires-2
+    bottom-up-in-requires
     returns-2)

@@ -35,7 +35,7 @@ same-length-3 c = search needs
 
 returns-3 : tie.Need-returns-3
 returns-3 c =
-    let k = c .before .before .before .before .before .before .before .before .before .before .before .before .before in
+    let k = c .before .before .before .before .before .before .before .before .before .before .before .before .before .before in
     let bs = bytes-all (k .before .args .block .now) (k .slice-known .given) in
     search (set-done, needs)
 

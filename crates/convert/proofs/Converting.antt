@@ -23,7 +23,7 @@ use Rattle.block.proofs.Headers.{sets-header}
 use Rattle.block.proofs.Blocks.{direction-ok, tables-ok, room, lists-ok, good-contents, good-length, counted-room}
 use Rattle.block.proofs.Reading.{Spellable, contents-spelled, good-spelled-block, good-spellable, good-header, good-tables}
 use Rattle.block.proofs.Kept.{good-bytes}
-use Rattle.tables.specs.Commands.{outcome, doneWith}
+use Rattle.range.specs.Outcomes.{outcome, doneWith}
 use Rattle.convert.specs.Convert.{oldFlags, flagsOne, goodOne, convert, Converts, ConvertSentence}
 use Rattle.tables.proofs.Good.{was-good}
 use Rattle.tables.proofs.Printed.{fresh-spellable}

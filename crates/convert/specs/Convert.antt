@@ -8,7 +8,7 @@ use lib.ListN.{length, drop}
 use Rattle.regions.specs.declared.Region.{Region}
 use Rattle.regions.specs.Bytes.{number}
 use Rattle.block.specs.Block.{editionOne, current, blockLength, freshContents, blockBytes, contents, good}
-use Rattle.tables.specs.Commands.{Outcome, outcome, doneWith, unless}
+use Rattle.range.specs.Outcomes.{Outcome, outcome, doneWith, unless}
 
 -- document 01's flags of memory: 0 or 4
 abbrev pub oldFlags : ℕ → Bool

@@ -14,7 +14,7 @@ ghost use mathlib.Core.Path.{_≡_};
 ghost use Prim.Native.Nat.{_*_, _≤_};
 ghost use lib.ListN.{length};
 ghost use Rattle.regions.specs.Bytes.{readRegions};
-ghost use Rattle.tables.specs.Commands.{outcome};
+ghost use Rattle.range.specs.Outcomes.{outcome};
 ghost use Rattle.convert.specs.Convert.{oldFlags, flagsOne, goodOne, convert as convertOutcome};
 
 // Whether document 01 knows these flags of memory: 0 or 4.

@@ -8,7 +8,8 @@ use lib.ListN.{length}
 use borrow.Author.Tests.{ne-eqb, lt-leb, eqb-false}
 use Rattle.block.specs.declared.Layout.{Layout}
 use Rattle.block.specs.Block.{good}
-use Rattle.tables.specs.Commands.{Outcome, outcome, Command, commandOutcome, trim}
+use Rattle.range.specs.Outcomes.{Outcome, outcome}
+use Rattle.tables.specs.Commands.{Command, commandOutcome, trim}
 use Rattle.intake.specs.E820.{entries, readable, commands, entrySteps, intakeE820}
 use Rattle.intake.specs.Turns.{Step, steps, inTurn, wholly}
 

@@ -11,7 +11,8 @@ use mathlib.Core.Bool.{true}
 use Rattle.regions.specs.Lists.{legalTag}
 use Rattle.block.specs.Block.{current}
 use Rattle.tables.specs.declared.commands.Verb.the-variants.{Add}
-use Rattle.tables.specs.Commands.{Outcome, outcome, tag, Command, command, legalVerb, commandOutcome}
+use Rattle.range.specs.Outcomes.{Outcome, outcome, tag}
+use Rattle.tables.specs.Commands.{Command, command, legalVerb, commandOutcome}
 use Rattle.intake.specs.declared.e820.Entry.{Entry}
 use Rattle.intake.specs.E820.{becomes, commandsAs, entryCommands, commands}
 use Rattle.intake.specs.Turns.{steps, inTurn}

@@ -9,7 +9,8 @@ use lib.ListN.{drop}
 use Rattle.address.specs.Numbers.{powerBelow}
 use Rattle.regions.specs.declared.Kind.the-variants.{Taken}
 use Rattle.block.specs.Block.{current, offset, good}
-use Rattle.tables.specs.Commands.{Outcome, outcome, Command, table, legalVerb, commandOutcome, trim}
+use Rattle.range.specs.Outcomes.{Outcome, outcome}
+use Rattle.tables.specs.Commands.{Command, table, legalVerb, commandOutcome, trim}
 use Rattle.tables.proofs.Good.{command-good, command-number, trim-good}
 use Rattle.tables.proofs.Front.{command-front, trim-front}
 use Rattle.intake.specs.declared.e820.Entry.{Entry}

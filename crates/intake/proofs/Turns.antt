@@ -9,7 +9,8 @@ use lib.ListN.{drop}
 use borrow.Author.Tests.{eq-eqb, ne-eqb, eqb-true}
 use Rattle.regions.proofs.Items.{items-rest, items-end}
 use Rattle.block.specs.Block.{current}
-use Rattle.tables.specs.Commands.{Outcome, outcome, doneWith, Command, commandOutcome, trim}
+use Rattle.range.specs.Outcomes.{Outcome, outcome, doneWith}
+use Rattle.tables.specs.Commands.{Command, commandOutcome, trim}
 use Rattle.intake.specs.declared.e820.Entry.{Entry}
 use Rattle.intake.specs.E820.{readEntry, readEntries, entryCommands, commands, entrySteps}
 use Rattle.intake.specs.Turns.{Step, steps, inTurn}

@@ -10,7 +10,7 @@ use lib.Seq.{take-all, length-take-le}
 use borrow.Author.Tests.{eq-eqb, ne-eqb, le-leb, eqb-true, eqb-false}
 use Rattle.block.specs.declared.Layout.{Layout}
 use Rattle.block.specs.Block.{current, good}
-use Rattle.tables.specs.Commands.{Outcome, outcome, unless}
+use Rattle.range.specs.Outcomes.{Outcome, outcome, unless}
 use Rattle.block.proofs.Blocks.{good-length, good-here, bad-here}
 use Rattle.intake.specs.E820.{entries, readable, entrySteps, intakeE820}
 use Rattle.intake.specs.Turns.{Step, inTurn, wholly}

@@ -8,7 +8,8 @@ use Rattle.regions.specs.Bytes.{number}
 use Rattle.block.specs.declared.Layout.{Layout}
 use Rattle.block.specs.Block.{good}
 use Rattle.tables.specs.declared.commands.Verb.the-variants.{Add}
-use Rattle.tables.specs.Commands.{Outcome, unless, tag, Command, command, trim}
+use Rattle.range.specs.Outcomes.{Outcome, unless, tag}
+use Rattle.tables.specs.Commands.{Command, command, trim}
 use Rattle.intake.specs.declared.e820.Entry.{Entry}
 use Rattle.intake.specs.declared.e820.Becomes.{Becomes}
 use Rattle.intake.specs.declared.e820.Becomes.the-variants.{Added, PassedOver}

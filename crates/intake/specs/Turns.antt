@@ -4,7 +4,8 @@ use mathlib.Core.Bool.{cond}
 use mathlib.Core.List.{List, [], _∷_, map}
 use lib.Dec.{eqb}
 use Rattle.block.specs.declared.Layout.{Layout}
-use Rattle.tables.specs.Commands.{Outcome, doneWith, unless, Command, commandOutcome}
+use Rattle.range.specs.Outcomes.{Outcome, doneWith, unless}
+use Rattle.tables.specs.Commands.{Command, commandOutcome}
 
 -- a command with its numbers: what it answers and leaves of a block
 abbrev pub Step : Type 0

@@ -16,7 +16,7 @@ ghost use Prim.Native.Nat.{_+_, _≤_};
 ghost use lib.ListN.{length, drop};
 ghost use mathlib.Core.Bool.{true};
 ghost use Rattle.block.specs.Block.{current, good};
-ghost use Rattle.tables.specs.Commands.{outcome};
+ghost use Rattle.range.specs.Outcomes.{outcome};
 ghost use Rattle.intake.specs.E820.{readEntry, entries, becomes as becomesOf, entryCommands, entrySteps, intakeE820};
 ghost use Rattle.intake.specs.Turns.{steps, inTurn, wholly};
 

@@ -14,7 +14,8 @@ use Rattle.regions.proofs.Push.{same-true}
 use Rattle.regions.proofs.Legal.{legalState}
 use Rattle.tables.specs.declared.commands.Verb.{Verb}
 use Rattle.tables.specs.declared.commands.Verb.the-variants.{Add, Remove, Mark, Unmark, Reserve, Free}
-use Rattle.tables.specs.Commands.{tag, Command, table, changeOf}
+use Rattle.range.specs.Outcomes.{tag}
+use Rattle.tables.specs.Commands.{Command, table, changeOf}
 use Rattle.memblock.specs.Lists.{says}
 use Rattle.memblock.proofs.Steps.{works, made}
 

@@ -2,7 +2,7 @@
 use Prim.Native.Nat.{ℕ}
 use mathlib.Core.Path.{_≡_, ap}
 use mathlib.Core.List.{List, []}
-use Rattle.tables.specs.Commands.{Outcome, outcome}
+use Rattle.range.specs.Outcomes.{Outcome, outcome}
 use Rattle.search.specs.Answers.{answer}
 use Rattle.memblock.specs.Calls.{plain}
 

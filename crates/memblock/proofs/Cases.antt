@@ -25,12 +25,12 @@ use Rattle.block.proofs.Blocks.{lists-ok}
 use Rattle.block.proofs.Reading.{Spellable, contents-spelled}
 use Rattle.block.proofs.Layouts.{small-current}
 use Rattle.search.specs.Answers.{Answer}
-use Rattle.runs.specs.Steps.{cutLow, cutHigh, fitLow, fitHigh}
+use Rattle.fits.specs.Steps.{cutLow, cutHigh, fitLow, fitHigh}
 use Rattle.memblock.specs.Calls.{Call, leaves}
 use Rattle.memblock.specs.Cases.{Case, Holds, AllHold, fresh, cases}
 use Rattle.memblock.proofs.Computing.{sound, Result, spelled, compute, computeAll, computable, allComputable, sound-spellable, call-computed, answers-computed}
 use Rattle.regions.proofs.Update as table
-use Rattle.runs.proofs.Ways as walks
+use Rattle.fits.proofs.Ways as walks
 
 -- the contents at the end
 unfoldable ended : List Call → Contents → Contents

@@ -30,23 +30,25 @@ use Rattle.regions.proofs.Trim.{trim-rounds}
 use Rattle.regions.proofs.Update.{update}
 use Rattle.regions.proofs.Update.{update-shortest}
 use Rattle.block.specs.Block.{current, capacity, Contents, listOf, withList, withSettings, settings, withImage, blockBytes, contents, goodTable, goodContents, good}
-use Rattle.tables.specs.Commands.{outcome, store, tag, changeRange, Command, table, changeOf, legalVerb, commandOutcome, set, setImageEnd, trim}
+use Rattle.range.specs.Outcomes.{outcome, store, tag, changeRange}
+use Rattle.tables.specs.Commands.{Command, table, changeOf, legalVerb, commandOutcome, set, setImageEnd, trim}
 use Rattle.block.proofs.Blocks.{lists-ok}
 use Rattle.block.proofs.Reading.{Spellable, contents-spelled, good-spelled-block}
 use Rattle.block.proofs.Layouts.{small-current}
-use Rattle.runs.specs.declared.Query.{Query}
-use Rattle.runs.specs.declared.Way.{Way}
-use Rattle.runs.specs.declared.Way.the-variants.{Up, Down}
-use Rattle.search.specs.Search.{window, runsOf, bottomUp, found, foundPlace}
-use Rattle.search.specs.Steps.{withWindow}
+use Rattle.fits.specs.declared.Query.{Query}
+use Rattle.fits.specs.declared.Way.{Way}
+use Rattle.fits.specs.declared.Way.the-variants.{Up, Down}
+use Rattle.seek.specs.Search.{window, runsOf, bottomUp, found, foundPlace}
+use Rattle.seek.specs.Steps.{withWindow}
 use Rattle.search.specs.Answers.{Answer, answer, slipOf, refusal, checkNumber, asking, placeAnswer, find, allocate, allocateAnswer, reserved}
-use Rattle.runs.specs.Places.{Hit, hitOf, placeOf}
-use Rattle.runs.specs.Eligible.{orElse, lowest, highest, eligible}
-use Rattle.runs.specs.Steps.{extreme, firstIn}
-use Rattle.search.proofs.Found.{eligible-below, found-eligible}
-use Rattle.search.proofs.BottomUp.{above, lowest-raised}
+use Rattle.fits.specs.Places.{Hit, hitOf, placeOf}
+use Rattle.fits.specs.Eligible.{orElse, lowest, highest, eligible}
+use Rattle.fits.specs.Steps.{extreme}
+use Rattle.runs.specs.Steps.{firstIn}
+use Rattle.seek.proofs.Found.{eligible-below, found-eligible}
+use Rattle.seek.proofs.BottomUp.{above, lowest-raised}
 use Rattle.search.proofs.Answering.{number-ready}
-use Rattle.runs.proofs.Ways.{walk, along}
+use Rattle.fits.proofs.Ways.{walk, along}
 use Rattle.runs.proofs.Walks.{walk-first}
 use Rattle.memblock.specs.Calls.{Call, toFresh, toSet, toSetImageEnd, toCommand, toTrim, toFind, toNextFree, toAllocate, toIntake, toConvert, answerOf, answers}
 

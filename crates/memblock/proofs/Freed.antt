@@ -17,7 +17,7 @@ use Rattle.regions.proofs.RoundTrip.{inside-yes}
 use Rattle.block.specs.Block.{current, withList, contents, good}
 use Rattle.tables.specs.declared.commands.Verb.the-variants.{Free}
 use Rattle.tables.specs.Commands.{Command, command}
-use Rattle.runs.specs.declared.Query.{Query}
+use Rattle.fits.specs.declared.Query.{Query}
 use Rattle.search.specs.DemandTwo.{freeIn, Eligible}
 use Rattle.memblock.specs.Calls.{outcomeOf}
 use Rattle.memblock.specs.Freed.{FreedSentence}

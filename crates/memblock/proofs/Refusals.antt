@@ -12,7 +12,8 @@ use Rattle.regions.specs.declared.Kind.the-variants.{Taken}
 use Rattle.regions.specs.declared.Change.the-variants.{Fill}
 use Rattle.block.specs.Block.{current, capacity, blockLength, contents, good}
 use Rattle.tables.specs.declared.commands.Verb.the-variants.{Reserve}
-use Rattle.tables.specs.Commands.{Outcome, unless, doneWith, store, changeRange, tag, Command, command, table, legalVerb, commandOutcome, fresh, set, setImageEnd, trim}
+use Rattle.range.specs.Outcomes.{Outcome, unless, doneWith, store, changeRange, tag}
+use Rattle.tables.specs.Commands.{Command, command, table, legalVerb, commandOutcome, fresh, set, setImageEnd, trim}
 use Rattle.convert.specs.Convert.{goodOne, convert}
 use Rattle.tables.specs.DemandTwo.{finished}
 use Rattle.convert.proofs.Converting.{convert-sentence}
@@ -20,10 +21,10 @@ use Rattle.tables.proofs.Good.{was-good, command-good, trim-good, set-good, ima
 use Rattle.intake.specs.Turns.{inTurn, wholly}
 use Rattle.intake.specs.E820.{entries, readable, entrySteps, intakeE820}
 use Rattle.intake.proofs.Good.{intake-good}
-use Rattle.runs.specs.declared.Query.{Query}
-use Rattle.runs.specs.declared.fit.Place.{Place}
-use Rattle.runs.specs.declared.fit.Place.the-variants.{Here, Nowhere}
-use Rattle.search.specs.Search.{foundPlace, nextPlace}
+use Rattle.fits.specs.declared.Query.{Query}
+use Rattle.fits.specs.declared.Place.{Place}
+use Rattle.fits.specs.declared.Place.the-variants.{Here, Nowhere}
+use Rattle.seek.specs.Search.{foundPlace, nextPlace}
 use Rattle.search.specs.Answers.{Answer, answer, refuse, unless as unlessAnswer, slipOf, withSlip, asking, askable, refusal, checkNumber, nextNumber, placeAnswer, find, allocate, allocateAnswer, reserved, nextFree}
 use Rattle.memblock.specs.Calls.{Call, toFresh, toSet, toSetImageEnd, toCommand, toTrim, toFind, toNextFree, toAllocate, toIntake, toConvert, plain, answerOf}
 use Rattle.memblock.specs.Refusals.{slipLent, RefusalSentence, DoneSentence}

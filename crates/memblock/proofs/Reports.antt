@@ -9,7 +9,8 @@ use lib.Dec.{eqb}
 use borrow.Author.Tests.{eqb-false}
 use Rattle.block.specs.Block.{current}
 use Rattle.tables.specs.declared.commands.Verb.the-variants.{Add}
-use Rattle.tables.specs.Commands.{Outcome, tag, Command, command, trim}
+use Rattle.range.specs.Outcomes.{Outcome, tag}
+use Rattle.tables.specs.Commands.{Command, command, trim}
 use Rattle.intake.specs.declared.e820.Entry.{Entry}
 use Rattle.intake.specs.declared.e820.Becomes.{Becomes}
 use Rattle.intake.specs.declared.e820.Becomes.the-variants.{Added, PassedOver}

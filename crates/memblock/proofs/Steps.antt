@@ -16,7 +16,8 @@ use Rattle.regions.specs.Lists.{goodList}
 use Rattle.regions.specs.Changes.{change, after, cut, changed}
 use Rattle.regions.proofs.Legal.{changed-at}
 use Rattle.block.specs.Block.{current, capacity, Contents, listOf, withList, blockBytes, contents, good}
-use Rattle.tables.specs.Commands.{Outcome, outcome, store, Command, table, changeOf, legalVerb, commandOutcome}
+use Rattle.range.specs.Outcomes.{Outcome, outcome, store}
+use Rattle.tables.specs.Commands.{Command, table, changeOf, legalVerb, commandOutcome}
 use Rattle.tables.proofs.Verbs.{verb-keeps}
 use Rattle.block.proofs.Blocks.{lists-ok, good-contents}
 use Rattle.block.proofs.Layouts.{small-current}

@@ -3,10 +3,11 @@
 use Prim.Native.Nat.{ℕ}
 use mathlib.Core.List.{List, [], _∷_}
 use Rattle.block.specs.Block.{current}
-use Rattle.tables.specs.Commands.{Outcome, fresh, set, setImageEnd, Command, commandOutcome, trim}
+use Rattle.range.specs.Outcomes.{Outcome}
+use Rattle.tables.specs.Commands.{fresh, set, setImageEnd, Command, commandOutcome, trim}
 use Rattle.convert.specs.Convert.{convert}
 use Rattle.intake.specs.E820.{intakeE820}
-use Rattle.runs.specs.declared.Query.{Query}
+use Rattle.fits.specs.declared.Query.{Query}
 use Rattle.search.specs.Answers.{Answer, answer, find, allocate, nextFree}
 
 -- what a command on a range answers and leaves

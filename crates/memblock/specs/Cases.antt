@@ -7,8 +7,9 @@ use Rattle.regions.specs.declared.Region.{Region}
 use Rattle.regions.specs.Meaning.{region, at, total, top}
 use Rattle.block.specs.Block.{current, freshContents, blockBytes, contents}
 use Rattle.tables.specs.declared.commands.Verb.the-variants.{Add, Reserve, Free}
-use Rattle.tables.specs.Commands.{tag, command}
-use Rattle.runs.specs.Eligible.{query}
+use Rattle.range.specs.Outcomes.{tag}
+use Rattle.tables.specs.Commands.{command}
+use Rattle.fits.specs.Eligible.{query}
 use Rattle.search.specs.Answers.{Answer, slipOf}
 use Rattle.memblock.specs.Calls.{Call, toSet, toCommand, toTrim, toFind, toAllocate, answers, leaves}
 

@@ -8,7 +8,7 @@ use Rattle.regions.specs.Changes.{cut}
 use Rattle.block.specs.Block.{current, withList, contents, good}
 use Rattle.tables.specs.declared.commands.Verb.the-variants.{Free}
 use Rattle.tables.specs.Commands.{command}
-use Rattle.runs.specs.declared.Query.{Query}
+use Rattle.fits.specs.declared.Query.{Query}
 use Rattle.search.specs.DemandTwo.{Eligible}
 use Rattle.memblock.specs.Calls.{outcomeOf}
 

@@ -13,7 +13,8 @@ use Rattle.regions.specs.declared.State.the-variants.{Absent, Present}
 use Rattle.regions.specs.Meaning.{inside, at, sameTag}
 use Rattle.regions.specs.Changes.{cut, setFlag, clearFlag}
 use Rattle.block.specs.Block.{current, listOf, contents, good}
-use Rattle.tables.specs.Commands.{tag, Command, table}
+use Rattle.range.specs.Outcomes.{tag}
+use Rattle.tables.specs.Commands.{Command, table}
 use Rattle.tables.specs.declared.commands.Verb.{Verb}
 use Rattle.tables.specs.declared.commands.Verb.the-variants.{Add, Remove, Mark, Unmark, Reserve, Free}
 use Rattle.memblock.specs.Calls.{outcomeOf, Call, answers}

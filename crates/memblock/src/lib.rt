@@ -2,16 +2,17 @@
 // the equation with its line in the table of calls.
 use address::Address;
 use address::Size;
+use fits::Query;
 use regions::Tag;
-use runs::Query;
 use tables::commands::Verb;
 use tables::commands::on_range;
 ghost use mathlib.Core.Path.{_≡_};
 ghost use mathlib.Core.List.{[]};
-ghost use Rattle.runs.specs.Eligible.{query};
+ghost use Rattle.fits.specs.Eligible.{query};
 ghost use Rattle.search.specs.Answers.{answer};
 ghost use Rattle.tables.specs.declared.commands.Verb.the-variants.{Add, Remove, Mark, Unmark, Reserve, Free};
-ghost use Rattle.tables.specs.Commands.{tag, command};
+ghost use Rattle.range.specs.Outcomes.{tag};
+ghost use Rattle.tables.specs.Commands.{command};
 ghost use Rattle.memblock.specs.Calls.{toFresh, toSet, toSetImageEnd, toCommand, toTrim, toFind, toNextFree, toAllocate, toIntake, toConvert, answerOf};
 
 // Writes a fresh block over any 15,440 bytes.

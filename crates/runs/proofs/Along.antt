@@ -18,9 +18,9 @@ use Rattle.regions.proofs.Rises.{Rises, ended, next, Canonical}
 use Rattle.regions.proofs.RoundTrip.{inside-hi, at-here, at-before, at-past, rises-below}
 use Rattle.regions.proofs.Records.{read-regions-snoc}
 use Rattle.regions.proofs.Trim.{rises-apart}
-use Rattle.runs.specs.declared.Way.{Way}
-use Rattle.runs.specs.declared.Way.the-variants.{Up, Down}
-use Rattle.runs.proofs.Ways.{near, front, back, InOrder, Before, From, in-order, front-back, onto, falling, along}
+use Rattle.fits.specs.declared.Way.{Way}
+use Rattle.fits.specs.declared.Way.the-variants.{Up, Down}
+use Rattle.fits.proofs.Ways.{near, front, back, InOrder, Before, From, in-order, front-back, onto, falling, along}
 
 -- ---- what lies beside a record has not its tag
 

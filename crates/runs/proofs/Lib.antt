@@ -1,9 +1,4 @@
 pub mod Along
-pub mod Eligible
-pub mod Extremes
-pub mod Fits
 pub mod Steps
-pub mod Stretches
 pub mod Walks
-pub mod Ways
 pub mod Window

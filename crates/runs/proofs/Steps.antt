@@ -31,16 +31,17 @@ use Rattle.records.specs.Steps.{Table, endingBy}
 use Rattle.records.proofs.Placing.{ending-above, place-le}
 use Rattle.records.proofs.Tables.{good-table}
 use Rattle.records.proofs.Placing.{drop-read}
-use Rattle.runs.specs.declared.Query.{Query}
-use Rattle.runs.specs.declared.walk.Bounds.{Bounds}
-use Rattle.runs.specs.declared.fit.Place.{Place}
-use Rattle.runs.specs.declared.fit.Place.the-variants.{Here, Nowhere}
-use Rattle.runs.specs.Eligible.{asks, orElse}
-use Rattle.runs.specs.Places.{Hit, placeOf}
-use Rattle.runs.specs.Steps.{hitIn, spotOf, boundsOf, boundsLow, boundsHigh, serves, cutLow, cutHigh, fitLow, fitHigh, Searchable, firstIn}
-use Rattle.runs.specs.declared.Way.{Way}
-use Rattle.runs.specs.declared.Way.the-variants.{Up, Down}
-use Rattle.runs.proofs.Ways.{choose, near, far, gaps, walk}
+use Rattle.fits.specs.declared.Query.{Query}
+use Rattle.runs.specs.declared.Bounds.{Bounds}
+use Rattle.fits.specs.declared.Place.{Place}
+use Rattle.fits.specs.declared.Place.the-variants.{Here, Nowhere}
+use Rattle.fits.specs.Eligible.{asks, orElse}
+use Rattle.fits.specs.Places.{Hit, placeOf}
+use Rattle.fits.specs.Steps.{hitIn, spotOf, serves, cutLow, cutHigh, fitLow, fitHigh}
+use Rattle.runs.specs.Steps.{boundsOf, boundsLow, boundsHigh, Searchable, firstIn}
+use Rattle.fits.specs.declared.Way.{Way}
+use Rattle.fits.specs.declared.Way.the-variants.{Up, Down}
+use Rattle.fits.proofs.Ways.{choose, near, far, gaps, walk}
 use Rattle.runs.proofs.Along.{backs, backs-falling}
 use Rattle.runs.proofs.Walks.{walk-first}
 use Rattle.runs.proofs.Window.{canonical-drop, from-memory, from-taken}

@@ -18,17 +18,18 @@ use Rattle.regions.proofs.Rises.{Canonical}
 use Rattle.regions.proofs.RoundTrip.{at-here, at-before, at-past, canonical-shortest}
 use Rattle.regions.proofs.Free.{pass-untaken, runs-at, free-memory}
 use Rattle.regions.proofs.Lying.{passes, Longest, run-is, one-run-in}
-use Rattle.runs.specs.declared.Query.{Query}
-use Rattle.runs.specs.Eligible.{asks, orElse, eligible}
-use Rattle.runs.specs.Places.{Hit}
-use Rattle.runs.specs.Steps.{serves, firstIn}
-use Rattle.runs.specs.declared.Way.{Way}
-use Rattle.runs.specs.declared.Way.the-variants.{Up, Down}
-use Rattle.runs.proofs.Ways.{near, far, front, back, sooner, later, precedes, Before, From, before-or-from, last, fit, gaps, walk, along}
-use Rattle.runs.proofs.Ways.{in-order, from-sooner, before-later, precedes-yes, precedes-no, front-back, near-near, far-far, between, within, by-points}
-use Rattle.runs.proofs.Stretches.{NoneIn, Finds, extend, join, finds-extreme}
-use Rattle.runs.proofs.Fits.{fit-finds}
-use Rattle.runs.proofs.Eligible.{past-window, none-eligible, eligible-lies, eligible-here, not-serving, does-serve}
+use Rattle.fits.specs.declared.Query.{Query}
+use Rattle.fits.specs.Eligible.{asks, orElse, eligible}
+use Rattle.fits.specs.Places.{Hit}
+use Rattle.fits.specs.Steps.{serves}
+use Rattle.runs.specs.Steps.{firstIn}
+use Rattle.fits.specs.declared.Way.{Way}
+use Rattle.fits.specs.declared.Way.the-variants.{Up, Down}
+use Rattle.fits.proofs.Ways.{near, far, front, back, sooner, later, precedes, Before, From, before-or-from, last, fit, gaps, walk, along}
+use Rattle.fits.proofs.Ways.{in-order, from-sooner, before-later, precedes-yes, precedes-no, front-back, near-near, far-far, between, within, by-points}
+use Rattle.fits.proofs.Stretches.{NoneIn, Finds, extend, join, finds-extreme}
+use Rattle.fits.proofs.Fits.{fit-finds}
+use Rattle.fits.proofs.Eligible.{past-window, none-eligible, eligible-lies, eligible-here, not-serving, does-serve}
 use Rattle.runs.proofs.Along.{Shut, AllShut, Along, done, step, at-outside, along-before, along-along, along-shut, along-at}
 
 -- f has every tag that the runs xs have, and the walks end at z

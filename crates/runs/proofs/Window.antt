@@ -21,14 +21,14 @@ use Rattle.regions.proofs.Trim.{lower, rises-apart}
 use Rattle.regions.proofs.Free.{runs-at, free-memory}
 use Rattle.regions.proofs.Lying.{one-in, Parted, Agree, run-same, one-same}
 use Rattle.records.specs.Steps.{endingBy}
-use Rattle.runs.specs.declared.Query.{Query}
-use Rattle.runs.specs.Eligible.{asks, eligible, lowest, Gives}
-use Rattle.runs.specs.Places.{hitOf}
-use Rattle.runs.specs.declared.Way.the-variants.{Up}
+use Rattle.fits.specs.declared.Query.{Query}
+use Rattle.fits.specs.Eligible.{asks, eligible, lowest, Gives}
+use Rattle.fits.specs.Places.{hitOf}
+use Rattle.fits.specs.declared.Way.the-variants.{Up}
 use Rattle.runs.specs.Steps.{firstIn}
-use Rattle.runs.proofs.Extremes.{lowest-gives}
-use Rattle.runs.proofs.Stretches.{lowest-agree}
-use Rattle.runs.proofs.Eligible.{eligible-lies, lies-eligible}
+use Rattle.fits.proofs.Extremes.{lowest-gives}
+use Rattle.fits.proofs.Stretches.{lowest-agree}
+use Rattle.fits.proofs.Eligible.{eligible-lies, lies-eligible}
 
 -- ---- runs that agree from where the window begins, or below
 

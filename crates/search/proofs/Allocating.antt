@@ -13,14 +13,15 @@ use Rattle.regions.specs.declared.Kind.the-variants.{Taken}
 use Rattle.regions.specs.declared.Change.the-variants.{Fill}
 use Rattle.block.specs.declared.Layout.{Layout}
 use Rattle.block.specs.Block.{current, capacity, withList, blockBytes, contents}
-use Rattle.tables.specs.Commands.{Outcome, outcome, store, tag, changeRange}
-use Rattle.runs.specs.declared.Query.{Query}
+use Rattle.range.specs.Outcomes.{Outcome, outcome, store, tag, changeRange}
+use Rattle.fits.specs.declared.Query.{Query}
 use Rattle.regions.specs.declared.Run.{Run}
-use Rattle.runs.specs.declared.fit.Place.{Place}
-use Rattle.runs.specs.declared.fit.Place.the-variants.{Here, Nowhere}
-use Rattle.search.specs.Search.{foundPlace}
+use Rattle.fits.specs.declared.Place.{Place}
+use Rattle.fits.specs.declared.Place.the-variants.{Here, Nowhere}
+use Rattle.seek.specs.Search.{foundPlace}
 use Rattle.search.specs.Answers.{Answer, answer, refuse, slipOf, checkNumber, reserved, allocate, allocateAnswer}
-use Rattle.search.specs.Steps.{Ready, begun, Reservable}
+use Rattle.seek.specs.Steps.{Ready}
+use Rattle.search.specs.Steps.{begun, Reservable}
 use Rattle.search.proofs.Answering.{stopped, goes-on, still-zero, found-vacant}
 
 -- a list that does not fit leaves the block

@@ -20,16 +20,17 @@ use Rattle.block.specs.declared.Layout.{Layout}
 use Rattle.block.specs.Block.{current, contents, good}
 use Rattle.block.proofs.Blocks.{bad-here, good-here}
 use Rattle.regions.specs.Runs.{runAt}
-use Rattle.runs.specs.declared.Query.{Query}
+use Rattle.fits.specs.declared.Query.{Query}
 use Rattle.regions.specs.declared.Run.{Run}
-use Rattle.runs.specs.declared.fit.Place.{Place}
-use Rattle.runs.specs.declared.fit.Place.the-variants.{Here, Nowhere}
-use Rattle.search.specs.Search.{window, runsOf, found, foundPlace, nextPlace}
+use Rattle.fits.specs.declared.Place.{Place}
+use Rattle.fits.specs.declared.Place.the-variants.{Here, Nowhere}
+use Rattle.seek.specs.Search.{window, runsOf, found, foundPlace, nextPlace}
 use Rattle.search.specs.Answers.{Answer, answer, refuse, slipOf, askable, checkNumber, nextNumber, asking, placeAnswer, find, nextFree}
-use Rattle.runs.specs.Places.{hitOf, placeOf}
-use Rattle.search.specs.Steps.{Ready, nextQuery, begun, Told}
+use Rattle.fits.specs.Places.{hitOf, placeOf}
+use Rattle.seek.specs.Steps.{Ready, nextQuery}
+use Rattle.search.specs.Steps.{begun, Told}
 use Rattle.change.specs.Steps.{Vacant}
-use Rattle.search.proofs.Found.{eligible-below, eligible-vacant, found-eligible}
+use Rattle.seek.proofs.Found.{eligible-below, eligible-vacant, found-eligible}
 
 -- ---- the checks
 

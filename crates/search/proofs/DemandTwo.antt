@@ -26,19 +26,19 @@ use Rattle.block.specs.declared.Layout.{Layout}
 use Rattle.block.specs.declared.Settings.{Settings}
 use Rattle.block.specs.Block.{capacity, withList, blockBytes, contents, good}
 use Rattle.block.proofs.Blocks.{lists-ok, good-contents}
-use Rattle.tables.specs.Commands.{Outcome, outcome, store, tag, changeRange}
-use Rattle.runs.specs.declared.Query.{Query}
-use Rattle.runs.specs.declared.fit.Place.{Place}
-use Rattle.runs.specs.declared.fit.Place.the-variants.{Here, Nowhere}
-use Rattle.runs.specs.Eligible.{eligible, Gives}
-use Rattle.runs.specs.Places.{hitOf, placeOf}
-use Rattle.runs.proofs.Extremes.{lowest-gives}
-use Rattle.search.specs.Search.{window, runsOf, found, foundPlace, freeFrom, lowestFree, nextPlace}
+use Rattle.range.specs.Outcomes.{Outcome, outcome, store, tag, changeRange}
+use Rattle.fits.specs.declared.Query.{Query}
+use Rattle.fits.specs.declared.Place.{Place}
+use Rattle.fits.specs.declared.Place.the-variants.{Here, Nowhere}
+use Rattle.fits.specs.Eligible.{eligible, Gives}
+use Rattle.fits.specs.Places.{hitOf, placeOf}
+use Rattle.fits.proofs.Extremes.{lowest-gives}
+use Rattle.seek.specs.Search.{window, runsOf, found, foundPlace, freeFrom, lowestFree, nextPlace}
 use Rattle.search.specs.Answers.{Answer, answer, refuse, slipOf, askable, checkNumber, nextNumber, asking, placeAnswer, find, reserved, allocateAnswer, allocate, nextFree}
 use Rattle.search.specs.DemandTwo.{Eligible, FreeFrom, Lowest, Highest, AboveImage, ByDirection, Passed, Searched, OrFull, LooksEligible, FindSentence, AllocateSentence, NextFreeSentence}
 use Rattle.search.proofs.Answering.{number-ready, slip-first, fine}
 use Rattle.search.proofs.Eligible.{passes-eligible, eligible-ends, eligible-passes, passes-free, free-ends, free-passes}
-use Rattle.search.proofs.Found.{Beyond, found-gives}
+use Rattle.seek.proofs.Found.{Beyond, found-gives}
 
 -- ---- any search
 

@@ -17,10 +17,10 @@ use Rattle.regions.proofs.Rises.{Canonical}
 use Rattle.regions.proofs.RoundTrip.{rises-above}
 use Rattle.regions.proofs.Lying.{in-one-run, one-run-in}
 use Rattle.block.specs.Block.{Contents}
-use Rattle.runs.specs.declared.Query.{Query}
-use Rattle.runs.specs.Eligible.{wanted, asks, eligible, Lies}
-use Rattle.runs.proofs.Eligible.{eligible-lies, lies-eligible}
-use Rattle.search.specs.Search.{windowStart, window, runsOf, freeFrom}
+use Rattle.fits.specs.declared.Query.{Query}
+use Rattle.fits.specs.Eligible.{wanted, asks, eligible, Lies}
+use Rattle.fits.proofs.Eligible.{eligible-lies, lies-eligible}
+use Rattle.seek.specs.Search.{windowStart, window, runsOf, freeFrom}
 use Rattle.search.specs.DemandTwo.{freeIn, Eligible, FreeFrom}
 
 -- what is free lies in a memory record, and those end at the top or below

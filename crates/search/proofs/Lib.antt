@@ -1,10 +1,7 @@
 pub mod Allocating
 pub mod Answering
-pub mod BottomUp
 pub mod DemandTwo
 pub mod Eligible
-pub mod Found
-pub mod InBlock
 pub mod Reserving
 pub mod RunEnd
 pub mod TopDown

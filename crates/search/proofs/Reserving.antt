@@ -16,16 +16,17 @@ use Rattle.regions.specs.Runs.{runAt}
 use Rattle.block.specs.declared.Layout.{Layout}
 use Rattle.block.specs.Block.{contents, good}
 use Rattle.tables.specs.declared.commands.Verb.the-variants.{Reserve}
-use Rattle.tables.specs.Commands.{Outcome, changeRange, tag, command, commandOutcome}
-use Rattle.runs.specs.declared.Query.{Query}
-use Rattle.runs.specs.Eligible.{eligible, Gives}
-use Rattle.runs.specs.Places.{hitOf, placeOf}
-use Rattle.search.specs.Search.{window, runsOf, found, foundPlace}
+use Rattle.range.specs.Outcomes.{Outcome, changeRange, tag}
+use Rattle.tables.specs.Commands.{command, commandOutcome}
+use Rattle.fits.specs.declared.Query.{Query}
+use Rattle.fits.specs.Eligible.{eligible, Gives}
+use Rattle.fits.specs.Places.{hitOf, placeOf}
+use Rattle.seek.specs.Search.{window, runsOf, found, foundPlace}
 use Rattle.search.specs.Answers.{Answer, answer, refuse, slipOf, checkNumber, placeAnswer, find, allocate, allocateAnswer, reserved}
 use Rattle.search.specs.DemandTwo.{ReserveSentence}
 use Rattle.search.proofs.Answering.{number-ready, slip-first}
 use Rattle.search.proofs.Allocating.{store-leaves}
-use Rattle.search.proofs.Found.{Beyond, found-gives}
+use Rattle.seek.proofs.Found.{Beyond, found-gives}
 
 -- f is what find answers, a what allocate answers, o what reserve does
 record Then (f a : Answer) (o : Outcome) : Type 0 where

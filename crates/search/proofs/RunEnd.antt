@@ -22,19 +22,19 @@ use Rattle.regions.proofs.Lying.{Lies, one-in, run-of}
 use Rattle.regions.proofs.Rises.{Canonical}
 use Rattle.regions.proofs.RoundTrip.{canonical-shortest}
 use Rattle.block.specs.Block.{Contents, contents, good}
-use Rattle.runs.specs.declared.Query.{Query}
-use Rattle.runs.specs.Eligible.{wanted, asks, eligible, Gives}
-use Rattle.runs.specs.Places.{hitOf, placeOf}
-use Rattle.runs.proofs.Eligible.{eligible-lies}
-use Rattle.runs.proofs.Extremes.{lowest-gives}
-use Rattle.search.specs.Search.{window, runsOf, found, foundPlace, freeFrom, lowestFree, nextPlace}
+use Rattle.fits.specs.declared.Query.{Query}
+use Rattle.fits.specs.Eligible.{wanted, asks, eligible, Gives}
+use Rattle.fits.specs.Places.{hitOf, placeOf}
+use Rattle.fits.proofs.Eligible.{eligible-lies}
+use Rattle.fits.proofs.Extremes.{lowest-gives}
+use Rattle.seek.specs.Search.{window, runsOf, found, foundPlace, freeFrom, lowestFree, nextPlace}
 use Rattle.search.specs.Answers.{Answer, slipOf, askable, checkNumber, nextNumber, asking, placeAnswer, find, allocate, nextFree}
 use Rattle.search.specs.DemandTwo.{freeIn, Passed, LooksThenReserves}
 use Rattle.search.specs.RunEnd.{RunTo, NamesRun, FindRunSentence, AllocateRunSentence, NextFreeRunSentence}
 use Rattle.search.proofs.Answering.{number-ready, slip-first, slip-second}
 use Rattle.search.proofs.DemandTwo.{passed, through, memory-rises, check-low, next-low, next-checked}
 use Rattle.search.proofs.Eligible.{free-below}
-use Rattle.search.proofs.Found.{Beyond, found-gives}
+use Rattle.seek.proofs.Found.{Beyond, found-gives}
 use Rattle.search.proofs.Reserving.{reserve-sentence}
 
 -- ---- the run of an address that lies in one

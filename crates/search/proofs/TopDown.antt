@@ -14,13 +14,14 @@ use Rattle.regions.specs.declared.Region.{Region}
 use Rattle.regions.specs.declared.Change.the-variants.{Fill}
 use Rattle.regions.specs.Changes.{changed}
 use Rattle.block.specs.Block.{current, capacity, Contents, withList, withSettings, withImage, blockBytes, contents, good}
-use Rattle.tables.specs.Commands.{Outcome, outcome, doneWith, store, tag, setImageEnd}
+use Rattle.range.specs.Outcomes.{Outcome, outcome, doneWith, store, tag}
+use Rattle.tables.specs.Commands.{setImageEnd}
 use Rattle.tables.proofs.Good.{image-good}
 use Rattle.tables.proofs.ImageEnd.{image-end-sentence}
-use Rattle.runs.specs.declared.Query.{Query}
-use Rattle.runs.specs.declared.fit.Place.{Place}
-use Rattle.runs.specs.declared.fit.Place.the-variants.{Here, Nowhere}
-use Rattle.search.specs.Search.{found, foundPlace, lowestFree, nextPlace}
+use Rattle.fits.specs.declared.Query.{Query}
+use Rattle.fits.specs.declared.Place.{Place}
+use Rattle.fits.specs.declared.Place.the-variants.{Here, Nowhere}
+use Rattle.seek.specs.Search.{found, foundPlace, lowestFree, nextPlace}
 use Rattle.search.specs.Answers.{Answer, answer, refuse, slipOf, asking, askable, refusal, placeAnswer, reserved, allocateAnswer, find, allocate, nextFree}
 use Rattle.search.specs.TopDown.{SameAnswer, TopDownSentence}
 

@@ -19,11 +19,11 @@ use Rattle.regions.specs.Runs.{OneTag}
 use Rattle.regions.proofs.Free.{free-is}
 use Rattle.block.specs.declared.Layout.{Layout}
 use Rattle.block.specs.Block.{Contents, contents, good}
-use Rattle.runs.specs.declared.Query.{Query}
-use Rattle.runs.specs.declared.fit.Place.{Place}
-use Rattle.runs.specs.declared.fit.Place.the-variants.{Here, Nowhere}
-use Rattle.runs.specs.Eligible.{asked, granted, wanted, asks}
-use Rattle.search.specs.Search.{foundPlace, nextPlace}
+use Rattle.fits.specs.declared.Query.{Query}
+use Rattle.fits.specs.declared.Place.{Place}
+use Rattle.fits.specs.declared.Place.the-variants.{Here, Nowhere}
+use Rattle.fits.specs.Eligible.{asked, granted, wanted, asks}
+use Rattle.seek.specs.Search.{foundPlace, nextPlace}
 use Rattle.search.specs.Answers.{Answer, asking, askable, checkNumber, nextNumber, placeAnswer, allocateAnswer, find, allocate, nextFree}
 use Rattle.search.specs.DemandTwo.{freeIn, Eligible, OrFull}
 use Rattle.search.proofs.DemandTwo.{Answers, place-answers, allocate-answers}

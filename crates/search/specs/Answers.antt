@@ -10,11 +10,11 @@ use Rattle.regions.specs.declared.Change.the-variants.{Fill}
 use Rattle.regions.specs.Bytes.{bytes}
 use Rattle.block.specs.declared.Layout.{Layout}
 use Rattle.block.specs.Block.{contents, good}
-use Rattle.tables.specs.Commands.{Outcome, tag, changeRange}
-use Rattle.runs.specs.declared.Query.{Query}
-use Rattle.runs.specs.declared.fit.Place.{Place}
-use Rattle.runs.specs.declared.fit.Place.the-variants.{Here, Nowhere}
-use Rattle.search.specs.Search.{foundPlace, nextPlace}
+use Rattle.range.specs.Outcomes.{Outcome, tag, changeRange}
+use Rattle.fits.specs.declared.Query.{Query}
+use Rattle.fits.specs.declared.Place.{Place}
+use Rattle.fits.specs.declared.Place.the-variants.{Here, Nowhere}
+use Rattle.seek.specs.Search.{foundPlace, nextPlace}
 
 -- the number, and every byte of the block and of the answer slip after the call
 pub record Answer : Type 0 where

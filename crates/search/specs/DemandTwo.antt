@@ -16,9 +16,10 @@ use Rattle.block.specs.declared.Layout.{Layout}
 use Rattle.block.specs.declared.Settings.{Settings}
 use Rattle.block.specs.Block.{Contents, contents}
 use Rattle.tables.specs.declared.commands.Verb.the-variants.{Reserve}
-use Rattle.tables.specs.Commands.{Outcome, command, commandOutcome}
-use Rattle.runs.specs.declared.Query.{Query}
-use Rattle.runs.specs.Eligible.{wanted, asks}
+use Rattle.range.specs.Outcomes.{Outcome}
+use Rattle.tables.specs.Commands.{command, commandOutcome}
+use Rattle.fits.specs.declared.Query.{Query}
+use Rattle.fits.specs.Eligible.{wanted, asks}
 use Rattle.search.specs.Answers.{Answer, checkNumber, nextNumber, find, allocate, nextFree}
 
 -- ---- which addresses

@@ -1,7 +1,6 @@
 pub mod Answers
 pub mod DemandTwo
 pub mod RunEnd
-pub mod Search
 pub mod Steps
 pub mod TopDown
 pub mod Wishes

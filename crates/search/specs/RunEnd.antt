@@ -9,8 +9,8 @@ use Rattle.regions.specs.declared.State.the-variants.{Present}
 use Rattle.regions.specs.Bytes.{number}
 use Rattle.block.specs.declared.Layout.{Layout}
 use Rattle.block.specs.Block.{Contents, contents}
-use Rattle.runs.specs.declared.Query.{Query}
-use Rattle.runs.specs.Eligible.{wanted, asks}
+use Rattle.fits.specs.declared.Query.{Query}
+use Rattle.fits.specs.Eligible.{wanted, asks}
 use Rattle.search.specs.Answers.{find, allocate, nextFree}
 use Rattle.search.specs.DemandTwo.{freeIn}
 

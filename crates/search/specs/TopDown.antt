@@ -4,7 +4,7 @@ use mathlib.Core.Path.{_≡_}
 use mathlib.Core.List.{List}
 use Rattle.block.specs.Block.{current, contents}
 use Rattle.tables.specs.Commands.{setImageEnd}
-use Rattle.runs.specs.declared.Query.{Query}
+use Rattle.fits.specs.declared.Query.{Query}
 use Rattle.search.specs.Answers.{Answer, find, allocate, nextFree}
 
 -- the same number and the same slip

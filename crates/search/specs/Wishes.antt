@@ -11,7 +11,7 @@ use Rattle.regions.specs.Meaning.{at}
 use Rattle.regions.specs.Changes.{has}
 use Rattle.block.specs.declared.Layout.{Layout}
 use Rattle.block.specs.Block.{Contents, good}
-use Rattle.runs.specs.declared.Query.{Query}
+use Rattle.fits.specs.declared.Query.{Query}
 use Rattle.search.specs.Answers.{Answer, find, allocate, nextFree}
 use Rattle.search.specs.DemandTwo.{Eligible, FreeFrom}
 

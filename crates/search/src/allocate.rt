@@ -1,19 +1,19 @@
 // Allocate: looks for an address and goes on only when there is one; then it reserves the size found there.
 use crate::find::begin;
 use crate::find::put_slip;
-use crate::seek::find_in;
 use address::Address;
 use address::Size;
+use fits::Place;
+use fits::Query;
+use range::fill_range;
 use regions::Kind;
 use regions::Tag;
-use runs::Query;
-use runs::fit::Place;
-use tables::range::fill_range;
+use seek::find_in;
 ghost use mathlib.Core.Path.{_≡_};
 ghost use Rattle.regions.specs.declared.Kind.the-variants.{Taken};
 ghost use Rattle.regions.specs.declared.Change.the-variants.{Fill};
 ghost use Rattle.block.specs.Block.{current};
-ghost use Rattle.tables.specs.Commands.{tag, changeRange};
+ghost use Rattle.range.specs.Outcomes.{tag, changeRange};
 ghost use Rattle.search.specs.Answers.{answer, reserved, allocate as allocateSpec};
 ghost use Rattle.search.specs.Steps.{Reservable};
 

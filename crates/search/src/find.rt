@@ -1,14 +1,14 @@
 // Find and next free on a lent block. Each answers document 01's number and writes a lent slip of 16 bytes; a refusal leaves it all zero.
-use crate::seek::find_in;
-use crate::seek::next_in;
-use crate::seek::next_query;
 use address::Address;
 use block::block_good;
 use block::current_layout;
+use fits::Place;
+use fits::Query;
 use records::table::put_zeros;
 use regions::bytes::put_u64;
-use runs::Query;
-use runs::fit::Place;
+use seek::find_in;
+use seek::next_in;
+use seek::next_query;
 ghost use mathlib.Core.Path.{_≡_};
 ghost use lib.ListN.{length, replicate};
 ghost use Rattle.block.specs.Block.{current};

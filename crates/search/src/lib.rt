@@ -1,4 +1,3 @@
 // Find, next free and allocate on a block.
 pub mod allocate;
 pub mod find;
-pub mod seek;

@@ -13,7 +13,8 @@ use Rattle.regions.specs.Changes.{oneFlag}
 use Rattle.block.specs.Block.{capacity, withList, blockBytes, contents, good}
 use Rattle.tables.specs.declared.commands.Verb.{Verb}
 use Rattle.tables.specs.declared.commands.Verb.the-variants.{Add, Remove, Mark, Unmark, Reserve, Free}
-use Rattle.tables.specs.Commands.{unless, doneWith, store, table, legalVerb, commandOutcome}
+use Rattle.range.specs.Outcomes.{unless, doneWith, store}
+use Rattle.tables.specs.Commands.{table, legalVerb, commandOutcome}
 use Rattle.tables.specs.BadTag.{NotOneFlag, BadTag, BadTagSentence}
 use Rattle.tables.specs.DemandTwo.{finished}
 

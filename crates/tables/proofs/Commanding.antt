@@ -12,7 +12,8 @@ use Rattle.regions.specs.Trim.{trimmedList}
 use Rattle.block.specs.declared.Layout.{Layout}
 use Rattle.block.specs.Block.{current, withList, blockBytes, contents, good}
 use Rattle.tables.specs.declared.commands.Verb.{Verb}
-use Rattle.tables.specs.Commands.{Outcome, outcome, changeRange, command, table, changeOf, legalVerb, commandOutcome, trim}
+use Rattle.range.specs.Outcomes.{Outcome, outcome, changeRange}
+use Rattle.tables.specs.Commands.{command, table, changeOf, legalVerb, commandOutcome, trim}
 use Rattle.block.proofs.Blocks.{bad-here, good-here}
 
 -- past its checks, a command is the change

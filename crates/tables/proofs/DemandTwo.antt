@@ -6,7 +6,8 @@ use lib.Dec.{leb}
 use lib.ListN.{length}
 use borrow.Author.Tests.{lt-leb, leb-false}
 use Rattle.block.specs.Block.{capacity, withList, blockBytes, contents, good}
-use Rattle.tables.specs.Commands.{unless, doneWith, store, table, legalVerb, commandOutcome}
+use Rattle.range.specs.Outcomes.{unless, doneWith, store}
+use Rattle.tables.specs.Commands.{table, legalVerb, commandOutcome}
 use Rattle.tables.specs.DemandTwo.{finished, Full, FullSentence}
 
 pub full-sentence : FullSentence

@@ -17,7 +17,8 @@ use Rattle.regions.proofs.Trim.{round-length, trim-rounds}
 use Rattle.regions.proofs.Good.{good-rises}
 use Rattle.block.specs.Block.{current, capacity, offset, withList, blockBytes, contents, good}
 use Rattle.block.proofs.Blocks.{behind-memory, room, lists-ok, good-contents, good-spelled}
-use Rattle.tables.specs.Commands.{store, Command, table, changeOf, legalVerb, commandOutcome, trim}
+use Rattle.range.specs.Outcomes.{store}
+use Rattle.tables.specs.Commands.{Command, table, changeOf, legalVerb, commandOutcome, trim}
 
 module _ (b : List ℕ) (g : good current b ≡ true) where
   memory-room : length (contents current b .memory) ≤ current .memory

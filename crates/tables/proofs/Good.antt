@@ -20,7 +20,8 @@ use Rattle.block.proofs.Blocks.{direction-ok, tables-ok, good-contents}
 use Rattle.block.proofs.Reading.{Spellable, good-spelled-block}
 use Rattle.block.proofs.Layouts.{small-current}
 use Rattle.block.proofs.Kept.{change-kept, trim-kept}
-use Rattle.tables.specs.Commands.{Outcome, outcome, unless, doneWith, store, Command, table, changeOf, legalVerb, commandOutcome, fresh, set, setImageEnd, trim}
+use Rattle.range.specs.Outcomes.{Outcome, outcome, unless, doneWith, store}
+use Rattle.tables.specs.Commands.{Command, table, changeOf, legalVerb, commandOutcome, fresh, set, setImageEnd, trim}
 use Rattle.tables.specs.DemandTwo.{finished}
 use Rattle.tables.proofs.Verbs.{verb-keeps}
 use Rattle.tables.proofs.Printed.{fresh-spellable}

@@ -15,7 +15,8 @@ use Rattle.block.proofs.Reading.{Spellable, contents-spelled, good-spellable}
 use Rattle.block.proofs.Kept.{good-bytes}
 use Rattle.block.proofs.Layouts.{small-current}
 use Rattle.block.proofs.Fields.{block-image, good-image, image-written}
-use Rattle.tables.specs.Commands.{outcome, doneWith, fresh, set, setTo, setImageEnd}
+use Rattle.range.specs.Outcomes.{outcome, doneWith}
+use Rattle.tables.specs.Commands.{fresh, set, setTo, setImageEnd}
 use Rattle.tables.specs.ImageEnd.{SetsImageEnd, ImageEndSentence}
 use Rattle.tables.proofs.Printed.{fresh-spellable}
 use Rattle.tables.proofs.Good.{image-good}

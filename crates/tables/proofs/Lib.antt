@@ -5,8 +5,6 @@ pub mod Front
 pub mod Good
 pub mod ImageEnd
 pub mod Printed
-pub mod Ranging
 pub mod Setting
-pub mod Storing
 pub mod Unchanged
 pub mod Verbs

@@ -25,7 +25,8 @@ use Rattle.regions.proofs.Update.{update-shortest}
 use Rattle.block.specs.declared.Layout.{Layout}
 use Rattle.block.specs.Block.{editionOne, current, capacity, offset, withList, freshContents, entryBytes, entriesBytes, settingsBytes, totalsBytes, headerBytes, blockBytes, goodTable, goodContents, good}
 use Rattle.tables.specs.declared.commands.Verb.the-variants.{Add}
-use Rattle.tables.specs.Commands.{outcome, tag, fresh, store, command, commandOutcome}
+use Rattle.range.specs.Outcomes.{outcome, tag, store}
+use Rattle.tables.specs.Commands.{fresh, command, commandOutcome}
 use Rattle.block.specs.Checks.{Small}
 use Rattle.block.proofs.Layouts.{small-one, small-current}
 use Rattle.tables.proofs.Setting.{total-empty, fresh-spelled}

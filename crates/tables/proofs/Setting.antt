@@ -17,7 +17,8 @@ use Rattle.regions.proofs.Numbers.{Bytes}
 use Rattle.block.specs.declared.Layout.{Layout}
 use Rattle.block.specs.declared.Header.{Header}
 use Rattle.block.specs.Block.{current, capacity, settings, blockLength, freshContents, headerBytes, blockBytes, readHeader, good}
-use Rattle.tables.specs.Commands.{outcome, fresh, set, setImageEnd}
+use Rattle.range.specs.Outcomes.{outcome}
+use Rattle.tables.specs.Commands.{fresh, set, setImageEnd}
 use Rattle.block.proofs.Headers.{sets-header}
 use Rattle.block.proofs.Blocks.{good-length, bad-here, good-here}
 use Rattle.block.proofs.Reading.{good-header, good-tables}

@@ -23,7 +23,8 @@ use Rattle.regions.proofs.Good.{good-rises}
 use Rattle.block.specs.declared.Layout.{Layout}
 use Rattle.block.specs.Block.{capacity, Contents, listOf, withList, contents, good}
 use Rattle.tables.specs.declared.commands.Verb.the-variants.{Free}
-use Rattle.tables.specs.Commands.{doneWith, store, changeRange, command, commandOutcome}
+use Rattle.range.specs.Outcomes.{doneWith, store, changeRange}
+use Rattle.tables.specs.Commands.{command, commandOutcome}
 use Rattle.block.proofs.Blocks.{room, lists-ok, good-contents, good-spelled}
 
 -- each address from base to the cut end of the range stands as the change leaves it

@@ -13,8 +13,9 @@ use Rattle.regions.proofs.Flags.{one-flag-bounds}
 use Rattle.regions.proofs.Legal.{Keeps, fill-keeps, clear-keeps, mark-keeps, unmark-keeps}
 use Rattle.tables.specs.declared.commands.Verb.{Verb}
 use Rattle.tables.specs.declared.commands.Verb.the-variants.{Add, Remove, Mark, Unmark, Reserve, Free}
-use Rattle.tables.specs.Commands.{tag, table, changeOf, legalVerb}
-use Rattle.tables.specs.Steps.{Known}
+use Rattle.range.specs.Outcomes.{tag}
+use Rattle.tables.specs.Commands.{table, changeOf, legalVerb}
+use Rattle.range.specs.Steps.{Known}
 
 -- ---- by the command
 

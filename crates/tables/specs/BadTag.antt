@@ -8,7 +8,8 @@ use Rattle.block.specs.declared.Layout.{Layout}
 use Rattle.block.specs.Block.{good}
 use Rattle.tables.specs.declared.commands.Verb.{Verb}
 use Rattle.tables.specs.declared.commands.Verb.the-variants.{Add, Remove, Mark, Unmark, Reserve, Free}
-use Rattle.tables.specs.Commands.{Command, outcome, commandOutcome}
+use Rattle.range.specs.Outcomes.{outcome}
+use Rattle.tables.specs.Commands.{Command, commandOutcome}
 
 -- E6: not exactly one of the three flags
 abbrev pub NotOneFlag : ℕ → Type 0

@@ -1,40 +1,23 @@
 -- What each command on the tables answers and leaves, for all inputs: refusals in document 01's order. Assumes nothing.
 use Prim.Native.Nat.{ℕ}
-use mathlib.Core.Bool.{Bool, true, cond}
+use mathlib.Core.Bool.{Bool, true}
 use mathlib.Core.List.{List}
 use lib.Dec.{leb, eqb}
 use lib.ListN.{length}
 use Rattle.address.specs.Numbers.{powerOfTwo}
 use Rattle.regions.specs.declared.Kind.{Kind}
 use Rattle.regions.specs.declared.Kind.the-variants.{Memory, Taken}
-use Rattle.regions.specs.declared.Tag.{Tag}
-use Rattle.regions.specs.declared.Region.{Region}
 use Rattle.regions.specs.declared.Change.{Change}
 use Rattle.regions.specs.declared.Change.the-variants as Change
 use Rattle.regions.specs.Lists.{legalTag}
-use Rattle.regions.specs.Changes.{oneFlag, changed}
+use Rattle.regions.specs.Changes.{oneFlag}
 use Rattle.regions.specs.Trim.{trimmedList}
 use Rattle.block.specs.declared.Layout.{Layout}
 use Rattle.block.specs.declared.Settings.{Settings}
+use Rattle.range.specs.Outcomes.{Outcome, doneWith, unless, changeRange, tag}
 use Rattle.tables.specs.declared.commands.Verb.{Verb}
 use Rattle.tables.specs.declared.commands.Verb.the-variants.{Add, Remove, Mark, Unmark, Reserve, Free}
-use Rattle.block.specs.Block.{blockLength, capacity, listOf, withList, withSettings, settings, withImage, freshContents, blockBytes, contents, good}
-
--- the number that boot code gets back, and every byte of the block after the call
-pub record Outcome : Type 0 where
-  pub number : ℕ
-  pub block : List ℕ
-
-abbrev pub outcome : ℕ → List ℕ → Outcome
-outcome n b = record { number = n; block = b }
-
--- document 01's done
-abbrev pub doneWith : List ℕ → Outcome
-doneWith b = outcome 0 b
-
--- refused with n, and the block as lent, unless the test holds
-abbrev pub unless : Bool → ℕ → List ℕ → Outcome → Outcome
-unless test n b o = cond test o (outcome n b)
+use Rattle.block.specs.Block.{blockLength, withList, withSettings, settings, withImage, freshContents, blockBytes, contents, good}
 
 unfoldable pub fresh : Layout → List ℕ → Outcome
 fresh L b = unless (eqb (length b) (blockLength L)) 1 b (doneWith (blockBytes L freshContents))
@@ -51,17 +34,6 @@ set L limit direction b =
 -- E7: stores the image end; limit and direction stay
 unfoldable pub setImageEnd : Layout → ℕ → List ℕ → Outcome
 setImageEnd L image b = unless (good L b) 1 b (setTo L (withImage (contents L b .settings) image) b)
-
--- the block with another list in one of its tables, if the table has room for it
-unfoldable pub store : Layout → Kind → List Region → List ℕ → Outcome
-store L k xs b = unless (leb (length xs) (capacity L k)) 6 b (doneWith (blockBytes L (withList (contents L b) k xs)))
-
--- a change made over a range of a table
-abbrev pub changeRange : Layout → Kind → Change → ℕ → ℕ → List ℕ → Outcome
-changeRange L k c base size b = store L k (changed c base size (listOf (contents L b) k)) b
-
-abbrev pub tag : ℕ → ℕ → Tag
-tag flags node = record { flags = flags; node = node }
 
 -- ---- the commands on a range
 

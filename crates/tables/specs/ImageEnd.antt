@@ -7,7 +7,8 @@ use lib.ListN.{take, drop}
 use lib.Seq.{sets}
 use Rattle.regions.specs.Bytes.{bytes}
 use Rattle.block.specs.Block.{current, withSettings, withImage, contents, good}
-use Rattle.tables.specs.Commands.{outcome, fresh, set, setImageEnd}
+use Rattle.range.specs.Outcomes.{outcome}
+use Rattle.tables.specs.Commands.{fresh, set, setImageEnd}
 
 -- the u64 at offset 72 is the image end
 abbrev pub ImageAt72 : List ℕ → Type 0

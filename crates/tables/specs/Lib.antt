@@ -2,4 +2,3 @@ pub mod BadTag
 pub mod Commands
 pub mod DemandTwo
 pub mod ImageEnd
-pub mod Steps

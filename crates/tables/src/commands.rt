@@ -1,6 +1,4 @@
 // The commands on a lent block. Each answers document 01's number; a refusal leaves the block as it was.
-use crate::range::change_range;
-use crate::range::trim_memory;
 use address::Address;
 use address::Size;
 use block::Header;
@@ -11,6 +9,8 @@ use block::current_layout;
 use block::get_header;
 use block::put_header;
 use block::put_image_end;
+use range::change_range;
+use range::trim_memory;
 use records::table::Tally;
 use records::table::put_zeros;
 use regions::Change;
@@ -21,7 +21,8 @@ ghost use mathlib.Core.Path.{_≡_};
 ghost use mathlib.Core.Bool.{true};
 ghost use Rattle.address.specs.Numbers.{powerOfTwo};
 ghost use Rattle.block.specs.Block.{current, good};
-ghost use Rattle.tables.specs.Commands.{outcome, fresh as freshOutcome, set as setOutcome, setImageEnd, trim as trimOutcome, table as tableOf, changeOf, legalVerb, command, commandOutcome};
+ghost use Rattle.range.specs.Outcomes.{outcome};
+ghost use Rattle.tables.specs.Commands.{fresh as freshOutcome, set as setOutcome, setImageEnd, trim as trimOutcome, table as tableOf, changeOf, legalVerb, command, commandOutcome};
 
 // Writes a fresh block over any bytes of the right length.
 pub fn fresh(block: &mut [u8]) -> u32

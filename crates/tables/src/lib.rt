@@ -1,3 +1,2 @@
 // The commands on the tables of a block.
 pub mod commands;
-pub mod range;

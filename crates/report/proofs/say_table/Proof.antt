@@ -1,8 +1,8 @@
 -- `report::say_table` meets its contract.
 use Rattle.block.specs.Block.{current}
 use Rattle.block.proofs.Blocks.{good-length}
-use Rattle.tables.proofs.Storing.{span-le}
-use Rattle.tables.proofs.Ranging.{range-table}
+use Rattle.range.proofs.Storing.{span-le}
+use Rattle.range.proofs.Ranging.{range-table}
 use native.Mathlib.Omega.{arith}
 use borrow.Author.Needs.{needs}
 use Rattle.report.proofs.say_table.Statement.{statement}

@@ -1,0 +1,5 @@
+pub mod Eligible
+pub mod Extremes
+pub mod Fits
+pub mod Stretches
+pub mod Ways

@@ -1,0 +1,3 @@
+pub mod Eligible
+pub mod Places
+pub mod Steps

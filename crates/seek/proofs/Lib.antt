@@ -1,0 +1,3 @@
+pub mod BottomUp
+pub mod Found
+pub mod InBlock

@@ -77,11 +77,13 @@ module _ (ds : List Command) (w : Agreed ds) (b e : List ℕ) (g : good current 
 
   pub ran-ends : Ends b ds e
   ran-ends =
+      let image : take 8 (drop 72 e) ≡ take 8 (drop 72 b) =
+      good-image current e (r .isGood) ∙ ap (λ (s : Settings). bytes 8 (s .image .0)) (r .settings) ∙ sym (good-image current b g) in
       record {
         isGood = r .isGood;
         stands = ran-stands;
         settings = good-settings current e (r .isGood) ∙ ap settingsBytes (r .settings) ∙ sym (good-settings current b g);
-        spare = good-image current e (r .isGood) ∙ ap (λ (s : Settings). bytes 8 (s .image .0)) (r .settings) ∙ sym (good-image current b g);
+        spare = rw image;
       }
 
 -- ---- one end only

@@ -16,7 +16,6 @@ use Rattle.regions.specs.Changes.{changed}
 use Rattle.block.specs.Block.{current, capacity, Contents, withList, withSettings, withImage, blockBytes, contents, good}
 use Rattle.range.specs.Outcomes.{Outcome, outcome, doneWith, store, tag}
 use Rattle.tables.specs.Commands.{setImageEnd}
-use Rattle.tables.proofs.Good.{image-good}
 use Rattle.tables.proofs.ImageEnd.{image-end-sentence}
 use Rattle.fits.specs.declared.Query.{Query}
 use Rattle.fits.specs.declared.Place.{Place}
@@ -90,7 +89,7 @@ module _ (b : List ℕ) (image : ℕ) (l : image < 2 ^ 64) where
   module _ (g : good current b ≡ true) where
     isGood : good current c ≡ true
     unfolding c
-    isGood = image-good b g image
+    isGood = image-end-sentence .by-itself image b .isGood g
 
     says : contents current c ≡ imaged (contents current b) image
     unfolding c

@@ -32,7 +32,7 @@ abbrev pub above : Query → List Region → ℕ → ℕ → Bool
 above w runs image a = leb image a && eligible w runs a
 
 module _ (w : Query) (runs : List Region) (image : ℕ) where
-  -- is eligible from there on
+  -- is eligible in the window that begins no lower
   raised-eligible : (v : Address) → v .0 ≡ max (w .start .0) image → (a : ℕ) → eligible (withWindow w v (w .end)) runs a ≡ above w runs image a
   raised-eligible v is a =
       iff (eligible (withWindow w v (w .end)) runs a) (above w runs image a)

@@ -15,9 +15,10 @@ use Rattle.address.proofs.Tests.{and}
 use Rattle.regions.specs.declared.Kind.the-variants.{Memory, Taken}
 use Rattle.regions.proofs.Numbers.{bytes-mod}
 use Rattle.block.specs.declared.Layout.{Layout}
+use Rattle.block.specs.declared.Settings.{Settings}
 use Rattle.block.specs.Block.{current, capacity, blockLength, Contents, withSettings, settings, settingsBytes, totalsBytes, freshContents, headerBytes, blockBytes, contents, goodContents, good}
 use Rattle.block.proofs.Blocks.{direction-ok, tables-ok, good-contents}
-use Rattle.block.proofs.Reading.{Spellable, good-spelled-block}
+use Rattle.block.proofs.Reading.{SettingsFit, Spellable, good-spelled-block}
 use Rattle.block.proofs.Layouts.{small-current}
 use Rattle.block.proofs.Kept.{change-kept, trim-kept}
 use Rattle.range.specs.Outcomes.{Outcome, outcome, unless, doneWith, store}
@@ -72,16 +73,25 @@ settings-spelled : (L : Layout) (s : Contents) (limit direction image : ℕ)
 unfolding blockBytes headerBytes settingsBytes totalsBytes
 settings-spelled L s limit direction image = rw (bytes-mod 8 limit, bytes-mod 8 image)
 
--- a good block with other settings, whatever the limit and the image end
-settings-good : (b : List ℕ) → good current b ≡ true → (limit direction image : ℕ) → leb direction 1 ≡ true
-    → good current (blockBytes current (withSettings (contents current b) (settings limit direction image))) ≡ true
+-- what a good block says, with other settings
+pub settings-spellable : (b : List ℕ) → good current b ≡ true → (x : Settings) → leb (x .direction) 1 ≡ true → SettingsFit x
+    → Spellable current (withSettings (contents current b) x)
 unfolding goodContents
-settings-good b g limit direction image e =
+settings-spellable b g x e f =
     let s = contents current b in
     let p = good-contents current b g in
-    let x : Spellable current (withSettings s (settings (limit % 256 ^ 8) direction (image % 256 ^ 8))) =
-    record { good = and e (and (tables-ok current s p Memory) (tables-ok current s p Taken)); settings = record { limit = mod-lt limit (lit< tt); image = mod-lt image (lit< tt) } } in
-    rw (← settings-spelled current s limit direction image) (good-spelled-block current small-current _ x)
+    record { good = and e (and (tables-ok current s p Memory) (tables-ok current s p Taken)); settings = f }
+
+-- so it is a good block, whatever the limit and the image end
+settings-good : (b : List ℕ) → good current b ≡ true → (limit direction image : ℕ) → leb direction 1 ≡ true
+    → good current (blockBytes current (withSettings (contents current b) (settings limit direction image))) ≡ true
+settings-good b g limit direction image e =
+    let f : SettingsFit (settings (limit % 256 ^ 8) direction (image % 256 ^ 8)) = record { limit = mod-lt limit (lit< tt); image = mod-lt image (lit< tt) } in
+    rw (← settings-spelled current (contents current b) limit direction image) (good-spelled-block current small-current _ (settings-spellable b g _ e f))
+
+-- a good block's direction
+pub direction-legal : (b : List ℕ) → good current b ≡ true → leb (contents current b .settings .direction) 1 ≡ true
+direction-legal b g = le-leb (contents current b .settings .direction) 1 (direction-ok current (contents current b) (good-contents current b g))
 
 pub set-good : (b : List ℕ) → good current b ≡ true → (limit direction : ℕ) → good current (set current limit direction b .block) ≡ true
 unfolding set
@@ -93,9 +103,7 @@ set-good b g limit direction = go (leb direction 1) refl
 
 pub image-good : (b : List ℕ) → good current b ≡ true → (image : ℕ) → good current (setImageEnd current image b .block) ≡ true
 unfolding setImageEnd
-image-good b g image =
-    let d = direction-ok current (contents current b) (good-contents current b g) in
-    rw g (settings-good b g _ _ image (le-leb (contents current b .settings .direction) 1 d))
+image-good b g image = rw g (settings-good b g _ _ image (direction-legal b g))
 
 -- a fresh block is good; other lengths are refused
 pub fresh-good : (b : List ℕ) → fresh current b .number ≡ 0 → good current (fresh current b .block) ≡ true

@@ -6,12 +6,8 @@ use mathlib.Core.List.{List}
 use native.Mathlib.Omega.{arith}
 use lib.Dec.{leb, eqb}
 use lib.ListN.{length, take, drop}
-use borrow.Author.Tests.{le-leb}
-use Rattle.address.proofs.Tests.{and}
-use Rattle.regions.specs.declared.Kind.the-variants.{Memory, Taken}
-use Rattle.block.specs.Block.{current, blockLength, Contents, withSettings, settings, withImage, freshContents, blockBytes, contents, goodContents, good}
-use Rattle.block.proofs.Blocks.{direction-ok, tables-ok, good-contents}
-use Rattle.block.proofs.Reading.{Spellable, contents-spelled, good-spellable}
+use Rattle.block.specs.Block.{current, blockLength, Contents, withSettings, settings, withImage, freshContents, blockBytes, contents, good}
+use Rattle.block.proofs.Reading.{SettingsFit, contents-spelled, good-spellable}
 use Rattle.block.proofs.Kept.{good-bytes}
 use Rattle.block.proofs.Layouts.{small-current}
 use Rattle.block.proofs.Fields.{block-image, good-image, image-written}
@@ -19,7 +15,7 @@ use Rattle.range.specs.Outcomes.{outcome, doneWith}
 use Rattle.tables.specs.Commands.{fresh, set, setTo, setImageEnd}
 use Rattle.tables.specs.ImageEnd.{SetsImageEnd, ImageEndSentence}
 use Rattle.tables.proofs.Printed.{fresh-spellable}
-use Rattle.tables.proofs.Good.{image-good}
+use Rattle.tables.proofs.Good.{settings-spellable, direction-legal, image-good}
 
 -- ---- the command for it
 
@@ -33,16 +29,8 @@ module _ (image : ℕ) (b : List ℕ) where
     unfolding setImageEnd
     image-stored = rw g
 
-    image-spellable : image < 2 ^ 64 → Spellable current (withSettings (contents current b) (withImage (contents current b .settings) image))
-    unfolding goodContents
-    image-spellable l =
-        let s = contents current b in
-        let p = good-contents current b g in
-        let d = le-leb (s .settings .direction) 1 (direction-ok current s p) in
-        record {
-          good = and d (and (tables-ok current s p Memory) (tables-ok current s p Taken));
-          settings = record { limit = good-spellable current small-current b (good-bytes current b g) g .settings .limit; image = l };
-        }
+    image-fits : image < 2 ^ 64 → SettingsFit (withImage (contents current b .settings) image)
+    image-fits l = record { limit = good-spellable current small-current b (good-bytes current b g) g .settings .limit; image = l }
 
   sets-image-end : SetsImageEnd image b
   sets-image-end =
@@ -50,7 +38,7 @@ module _ (image : ℕ) (b : List ℕ) where
         refused = image-refused;
         done = λ g. image-stored g ∙ ap (outcome 0) (sym (image-written current b g image));
         isGood = λ g. image-good b g image;
-        says = λ g l. rw (image-stored g) (contents-spelled current small-current _ (image-spellable g l));
+        says = λ g l. rw (image-stored g) (contents-spelled current small-current _ (settings-spellable b g _ (direction-legal b g) (image-fits g l)));
       }
 
 -- ---- set and fresh

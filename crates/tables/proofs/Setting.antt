@@ -64,6 +64,10 @@ module _ (l : Layout) (is : l ≡ current) (b : List ℕ) where
       q ∙ rw (is, k) (sets-header current freshHeader x e) ∙ ap (λ (r : List ℕ). headerBytes current freshHeader ++ r) d ∙ sym (fresh-spelled current) in
       rw (eq-eqb (length b) (blockLength current) n, w)
 
+-- a block that was found good has room for a header
+pub checked-room : (l : Layout) → l ≡ current → (b : List ℕ) (g : Bool) → g ≡ good l b → not g ≡ false → 80 ≤ length b
+checked-room l is b g q t = omega (arith, good-length current b (good-here l is b g q t))
+
 -- ---- set
 
 module _ (l : Layout) (is : l ≡ current) (b : List ℕ) (x : Address) (d : ℕ) (g : Bool) (q : g ≡ good l b) where
@@ -76,16 +80,13 @@ module _ (l : Layout) (is : l ≡ current) (b : List ℕ) (x : Address) (d : ℕ
     unfolding set
     set-direction h = rw (good-here l is b g q t, lt-leb d 1 h)
 
-    pub set-room : 80 ≤ length b
-    set-room = omega (arith, good-length current b (good-here l is b g q t))
-
     pub set-done : Bytes b → d ≤ 1 → (own : Header) → own ≡ readHeader b → (y : List ℕ)
         → y ≡ sets b 0 (headerBytes l (record { memory = own .memory; taken = own .taken; settings = settings (x .0) d (own .settings .image .0) })) → outcome 0 y ≡ set current (x .0) d b
     unfolding set blockBytes
     set-done bs h own r y p =
         let k : good current b ≡ true = good-here l is b g q t in
         let e = r ∙ good-header current small-current b bs k in
-        rw (k, le-leb d 1 h, p, is, e, sets-header current _ b set-room, good-tables current b k)
+        rw (k, le-leb d 1 h, p, is, e, sets-header current _ b (checked-room l is b g q t), good-tables current b k)
 
 -- ---- the image end
 
@@ -95,9 +96,6 @@ module _ (l : Layout) (is : l ≡ current) (b : List ℕ) (v : Address) (g : Boo
   image-bad t = rw (bad-here l is b g q t)
 
   module _ (t : not g ≡ false) where
-    pub image-room : 80 ≤ length b
-    image-room = omega (arith, good-length current b (good-here l is b g q t))
-
     pub image-done : (y : List ℕ) → y ≡ sets b 72 (bytes 8 (v .0)) → outcome 0 y ≡ setImageEnd current (v .0) b
     unfolding setImageEnd
     image-done y p =

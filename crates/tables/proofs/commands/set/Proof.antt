@@ -1,7 +1,7 @@
 -- `tables::commands::set` meets its contract.
 use Rattle.regions.proofs.Numbers.{bytes-all}
 use Rattle.block.proofs.Layouts.{small-current, small-as}
-use Rattle.tables.proofs.Setting.{set-bad, set-direction, set-room, set-done}
+use Rattle.tables.proofs.Setting.{set-bad, set-direction, checked-room, set-done}
 use borrow.Author.Needs.{needs}
 use Rattle.tables.proofs.commands.set.Statement.{statement}
 use Rattle.tables.proofs.commands.set.Tie as tie
@@ -25,10 +25,10 @@ returns-2 : tie.Need-returns-2
 returns-2 c = search (set-direction, needs)
 
 get-header-requires : tie.Need-get-header-requires
-get-header-requires c κs = search (set-room, needs)
+get-header-requires c κs = search (checked-room, needs)
 
 put-header-requires : tie.Need-put-header-requires
-put-header-requires c κs = search (small-as small-current, set-room, needs)
+put-header-requires c κs = search (small-as small-current, checked-room, needs)
 
 same-length-3 : tie.Need-same-length-3
 same-length-3 c = search needs

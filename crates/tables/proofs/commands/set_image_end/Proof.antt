@@ -1,6 +1,6 @@
 -- `tables::commands::set_image_end` meets its contract.
 use Rattle.block.proofs.Layouts.{small-current, small-as}
-use Rattle.tables.proofs.Setting.{image-bad, image-room, image-done}
+use Rattle.tables.proofs.Setting.{image-bad, checked-room, image-done}
 use borrow.Author.Needs.{needs}
 use Rattle.tables.proofs.commands.set_image_end.Statement.{statement}
 use Rattle.tables.proofs.commands.set_image_end.Tie as tie
@@ -18,7 +18,7 @@ returns : tie.Need-returns
 returns c = search (image-bad, needs)
 
 put-image-end-requires : tie.Need-put-image-end-requires
-put-image-end-requires c κs = search (image-room, needs)
+put-image-end-requires c κs = search (checked-room, needs)
 
 same-length-2 : tie.Need-same-length-2
 same-length-2 c = search needs

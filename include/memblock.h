@@ -27,7 +27,7 @@
 extern "C" {
 #endif
 
-/* Numbers answered. Checked in the order 8, 1, 10, 2, 3, 4, 7, 5, 6; the first that holds is given. */
+/* Numbers answered. Checked in the order 8, 1, 10, 2, 3, 4, 7, 12, 5, 6; the first that holds is given. */
 #define MEMBLOCK_DONE 0
 #define MEMBLOCK_BAD_BLOCK 1     /* the block is not good (fresh, convert: not MEMBLOCK_BLOCK_LENGTH bytes; convert: or old is not good) */
 #define MEMBLOCK_BAD_TAG 2       /* add: flags above 7 or node above 63; mark, unmark: not one flag; searches: node above 63 and not any,
@@ -39,6 +39,7 @@ extern "C" {
 #define MEMBLOCK_BAD_DIRECTION 7 /* set: above 1 */
 #define MEMBLOCK_BAD_SLIP 8      /* the slip is not MEMBLOCK_SLIP_LENGTH bytes */
 #define MEMBLOCK_BAD_REPORT 10   /* the report is not whole entries, or more than MEMBLOCK_REPORT_ENTRIES */
+#define MEMBLOCK_NOT_TAKEN 12    /* free: not every address of the range is taken */
 
 /* Directions of a search. */
 #define MEMBLOCK_TOP_DOWN 0
@@ -126,12 +127,12 @@ extern "C" {
 #define MEMBLOCK_STACK_FRESH 64
 #define MEMBLOCK_STACK_SET 320
 #define MEMBLOCK_STACK_SET_IMAGE_END 320
-#define MEMBLOCK_STACK_ADD 3712
-#define MEMBLOCK_STACK_REMOVE 3712
+#define MEMBLOCK_STACK_ADD 3776
+#define MEMBLOCK_STACK_REMOVE 3776
 #define MEMBLOCK_STACK_MARK 3712
 #define MEMBLOCK_STACK_UNMARK 3712
-#define MEMBLOCK_STACK_RESERVE 3712
-#define MEMBLOCK_STACK_FREE 3712
+#define MEMBLOCK_STACK_RESERVE 3776
+#define MEMBLOCK_STACK_FREE 3776
 #define MEMBLOCK_STACK_TRIM 320
 #define MEMBLOCK_STACK_NEXT_FREE 384
 #define MEMBLOCK_STACK_FIND 576
@@ -157,7 +158,7 @@ uint32_t memblock_set(uint8_t *block, size_t length, uint64_t limit, uint32_t di
 uint32_t memblock_set_image_end(uint8_t *block, size_t length, uint64_t end);
 
 /* Commands on the range from base up to, not including, base + size, cut at MEMBLOCK_TOP. A size of 0 changes nothing.
- * Each answers 0, 1 or 6; add, mark and unmark also 2, whatever the size. */
+ * Each answers 0, 1 or 6; add, mark and unmark also 2, whatever the size; free also 12. */
 
 /* Gives the tag to each address not yet in memory; those already there keep theirs. */
 uint32_t memblock_add(uint8_t *block, size_t length, uint64_t base, uint64_t size, uint32_t flags, uint32_t node);
@@ -169,7 +170,8 @@ uint32_t memblock_remove(uint8_t *block, size_t length, uint64_t base, uint64_t 
 uint32_t memblock_mark(uint8_t *block, size_t length, uint64_t base, uint64_t size, uint32_t flag);
 uint32_t memblock_unmark(uint8_t *block, size_t length, uint64_t base, uint64_t size, uint32_t flag);
 
-/* Puts addresses into, or out of, the taken set. They need not be memory; freeing what is not taken changes nothing. */
+/* Puts addresses into, or out of, the taken set. They need not be memory. Free frees only what is taken, the whole range or nothing: 12
+ * where any of it is not taken. A range without an address, of size 0 or from MEMBLOCK_TOP on, is done. */
 uint32_t memblock_reserve(uint8_t *block, size_t length, uint64_t base, uint64_t size);
 uint32_t memblock_free(uint8_t *block, size_t length, uint64_t base, uint64_t size);
 

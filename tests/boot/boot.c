@@ -563,11 +563,17 @@ static void allocations(void)
     take(1, 1, 0, 0);
     take(5 * PAGE, KIB(16), MIB(2), MIB(64));
 
-    /* The second half of the depth table goes back and is eligible at once. */
+    /* The second half of the depth table goes back and is eligible at once. A second time it is refused, whole, in part, and with what
+     * is still taken before it. */
     give_back(depth, KIB(512));
     FREE(&block, depth + KIB(512), KIB(512));
     find(&block, KIB(512), KIB(4), 0, 0, ANY);
-    FREE(&block, GIB(600), MIB(1)); /* never taken: changes nothing */
+    FREE(&block, depth + KIB(512), KIB(512));
+    FREE(&block, depth + KIB(512), 1);
+    FREE(&block, depth, MIB(1));
+    FREE(&block, depth + KIB(512) - 1, 2);
+    FREE(&block, GIB(600), MIB(1)); /* never taken */
+    FREE(&block, GIB(600), 0);
     FREE(&block, camera, 0);
     RESERVE(&block, camera, MIB(8)); /* taken already: changes nothing */
 
@@ -678,12 +684,17 @@ static void full_taken(struct lent *lent)
         return;
     uint64_t last = base + (count - 1) * 2 * PAGE;
     FREE(lent, last + 16, 16);
+    FREE(lent, last + 16, PAGE); /* past the record's end: no question of room */
     set(lent, GIB(4), MEMBLOCK_BOTTOM_UP);
     if (find(lent, KIB(256), PAGE, MIB(2), 0, ANY) == MEMBLOCK_DONE)
         allocate(lent, PAGE, PAGE, slip_base() + KIB(64), 0, ANY); /* inside a free run: a record more */
     RESERVE(lent, base + PAGE, PAGE);                             /* fills a gap: a record less */
     RESERVE(lent, last + 4 * PAGE, PAGE);
-    FREE(lent, base, (count + 4) * 2 * PAGE);
+    FREE(lent, base, (count + 4) * 2 * PAGE); /* over the gaps */
+    FREE(lent, base, 3 * PAGE);               /* what three calls reserved */
+    for (uint64_t i = 2; i < count; i++)
+        FREE(lent, base + i * 2 * PAGE, PAGE);
+    FREE(lent, last + 4 * PAGE, PAGE);
 }
 
 /* The memory table filled with records that touch and differ in their tags. */
@@ -708,8 +719,8 @@ static void full_memory(struct lent *lent)
     allocate(lent, PAGE, PAGE, 0, GIB(4096), 5);
     next_free(lent, 0, 5, NONE, MEMBLOCK_SLIP_LENGTH);
     set(lent, GIB(4096), MEMBLOCK_BOTTOM_UP);
-    allocate(lent, PAGE, PAGE, 0, GIB(4096), 5);
-    FREE(lent, slip_base(), PAGE);
+    if (allocate(lent, PAGE, PAGE, 0, GIB(4096), 5) == MEMBLOCK_DONE)
+        FREE(lent, slip_base(), PAGE);
     set(lent, GIB(4), MEMBLOCK_BOTTOM_UP);
     free_runs(lent, 2, NONE);
     trim(lent, 2 * PAGE);
@@ -739,6 +750,11 @@ static void at_the_top(struct lent *lent)
     find(lent, PAGE - 1, 1, 0, MEMBLOCK_TOP, 1);
     find(lent, PAGE - 2, 1, 0, MEMBLOCK_TOP, 1);
     next_free(lent, 0, 1, NONE, MEMBLOCK_SLIP_LENGTH);
+    RESERVE(lent, UINT64_C(0) - PAGE, 2 * PAGE);
+    FREE(lent, MEMBLOCK_TOP, 1); /* nothing is left of it */
+    FREE(lent, UINT64_C(0) - PAGE - 1, 2 * PAGE);
+    FREE(lent, UINT64_C(0) - PAGE, MEMBLOCK_TOP);
+    FREE(lent, UINT64_C(0) - PAGE, MEMBLOCK_TOP);
     REMOVE(lent, UINT64_C(0) - PAGE, MEMBLOCK_TOP);
 }
 

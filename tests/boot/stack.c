@@ -2,8 +2,8 @@
  *
  * Each call runs on a painted stack of its own; the deepest byte that lost its paint says how much was used, bytes of the red zone
  * too. Twice with different paint, so that a byte written with the paint's own value is seen. The blocks have tables of several
- * fills up to full, with ranges on, beside and across their records; some blocks, slips, reports and old blocks are bad. Fails when a
- * function needs more than memblock.h says. */
+ * fills up to full, with ranges on, beside and across their records, for free most of them on what is taken; some blocks, slips, reports
+ * and old blocks are bad. Fails when a function needs more than memblock.h says. */
 #include "memblock.h"
 
 #include <stdio.h>
@@ -45,7 +45,7 @@ __asm__(".text\n"
         "    popq %rbp\n"
         "    ret\n");
 
-enum numbers { NONE, LIMIT, IMAGE_END, RANGE_TAG, RANGE_FLAG, RANGE, ALIGNMENT, FROM, SEARCH, REPORT, OLD };
+enum numbers { NONE, LIMIT, IMAGE_END, RANGE_TAG, RANGE_FLAG, RANGE, TAKEN_RANGE, ALIGNMENT, FROM, SEARCH, REPORT, OLD };
 
 static struct function {
     const char *name;
@@ -63,7 +63,7 @@ static struct function {
     {"mark", (void (*)(void))memblock_mark, RANGE_FLAG, MEMBLOCK_STACK_MARK, 0, 0, 0},
     {"unmark", (void (*)(void))memblock_unmark, RANGE_FLAG, MEMBLOCK_STACK_UNMARK, 0, 0, 0},
     {"reserve", (void (*)(void))memblock_reserve, RANGE, MEMBLOCK_STACK_RESERVE, 0, 0, 0},
-    {"free", (void (*)(void))memblock_free, RANGE, MEMBLOCK_STACK_FREE, 0, 0, 0},
+    {"free", (void (*)(void))memblock_free, TAKEN_RANGE, MEMBLOCK_STACK_FREE, 0, 0, 0},
     {"trim", (void (*)(void))memblock_trim, ALIGNMENT, MEMBLOCK_STACK_TRIM, 0, 0, 0},
     {"next_free", (void (*)(void))memblock_next_free, FROM, MEMBLOCK_STACK_NEXT_FREE, 0, 0, 0},
     {"find", (void (*)(void))memblock_find, SEARCH, MEMBLOCK_STACK_FIND, 0, 0, 0},
@@ -78,6 +78,8 @@ static uint8_t old[OLD_LENGTH];
 static uint8_t block[MEMBLOCK_BLOCK_LENGTH];
 static uint8_t slip[MEMBLOCK_SLIP_LENGTH];
 static uint8_t report[(MEMBLOCK_REPORT_ENTRIES + 1) * MEMBLOCK_REPORT_ENTRY_LENGTH];
+
+static unsigned taken_records;
 
 static uint64_t state = 1;
 
@@ -95,6 +97,14 @@ static uint64_t below(uint64_t end)
     return any() % end;
 }
 
+#define TAKEN_SIZE 0x100
+
+/* Where taken record i begins. */
+static uint64_t taken_base(uint64_t i)
+{
+    return 0x2000 * i + 0x1100;
+}
+
 /* Memory records of 4 KiB, of which every third touches the one before, of any flags or of those of edition 1; taken records of 256
  * bytes within them; no image end. */
 static void fill_tables(unsigned memory, unsigned taken, uint32_t direction, int any_flags)
@@ -105,7 +115,8 @@ static void fill_tables(unsigned memory, unsigned taken, uint32_t direction, int
         memblock_add(before, sizeof before, 0x2000 * (uint64_t)i + (i % 3 == 0 ? 0x1000 : 0), 0x1000,
                      any_flags ? i % (MEMBLOCK_FLAGS + 1) : i % 5 == 0 ? MEMBLOCK_NO_MAP : 0, i % MEMBLOCK_NODES);
     for (unsigned i = 0; i < taken; i++)
-        memblock_reserve(before, sizeof before, 0x2000 * (uint64_t)i + 0x1100, 0x100);
+        memblock_reserve(before, sizeof before, taken_base(i), TAKEN_SIZE);
+    taken_records = taken;
 }
 
 /* The block as an edition 1 block: good if it is and its taken table fits. */
@@ -207,6 +218,15 @@ static size_t choose(enum numbers numbers, uint64_t *arguments)
         arguments[n++] = size();
         arguments[n++] = below(8) == 0 ? below(MEMBLOCK_FLAGS + 2) : UINT64_C(1) << below(3);
         return n;
+    case TAKEN_RANGE:
+        if (taken_records > 0 && below(4) > 0) {
+            /* All of a record, its front, its back or its inside; now and then one address more. */
+            uint64_t from = below(2) * below(TAKEN_SIZE);
+            arguments[n++] = taken_base(below(taken_records)) + from;
+            arguments[n++] = TAKEN_SIZE - from - below(2) * below(TAKEN_SIZE - from) + (below(8) == 0);
+            return n;
+        }
+        /* fall through */
     case RANGE:
         arguments[n++] = address();
         arguments[n++] = size();

@@ -12,12 +12,15 @@
  * - the change reads the records that the range meets or touches, first up to stop - 1, and of the two beside them where they begin and
  *   end. No step knows the place before it has looked at first - 1 and first: up to there every look counts, behind it all but those at
  *   first - 1 to stop. A halving search ends just there, so that its looks are counted exactly.
+ * - free alone, to answer 12 (request E10), looks once more at first, the record that has the whole range if any does; the place is not
+ *   sought a second time. Of a free that gets 12 every look is accounted for: behind the place one at each record from first to the one
+ *   that begins past the range, and this one. There may be no other, and it must be met.
  *
  * They may be at most as many as the number of records has binary digits, 8 at 128 and 10 at 512, and at the full table that many must
- * be met. Tried for every command on a range, for ranges before, between, behind, inside, touching and over the records, at the fills 0
- * to 16, each power of two with its neighbours, and the last two; in the full table at each record, with allocate at those of the same
- * numbers. Then the count itself is tried, with steps that count their own looks: one that halves, and, as must be seen as too many,
- * one that cuts off a quarter at each look and one that goes from record to record. */
+ * be met. Tried for every command on a range, for ranges before, between, behind, inside, on, touching and over the records, at the
+ * fills 0 to 16, each power of two with its neighbours, and the last two; in the full table at each record, with allocate at those of
+ * the same numbers. Then the count itself is tried, with steps that count their own looks: one that halves, and, as must be seen as too
+ * many, one that cuts off a quarter at each look and one that goes from record to record. */
 #define _GNU_SOURCE
 #include "memblock.h"
 
@@ -270,8 +273,8 @@ static int is_tried(size_t n, size_t last)
 
 static size_t calls;
 
-/* Notes the looks of one call on a copy of `saved`. */
-static void watch(const struct tried *c, command *call, const uint8_t *saved, uint64_t base, uint64_t size)
+/* Notes the looks of one call on a copy of `saved`; whether it got 12, as only free may. */
+static int watch(const struct tried *c, command *call, const uint8_t *saved, uint64_t base, uint64_t size)
 {
     uint8_t *block = table - c->table;
     memcpy(block, saved, MEMBLOCK_BLOCK_LENGTH);
@@ -284,13 +287,17 @@ static void watch(const struct tried *c, command *call, const uint8_t *saved, ui
     open_up();
     mprotect(front, FRONT, PROT_READ | PROT_WRITE);
     calls++;
-    if (number != MEMBLOCK_DONE && number != MEMBLOCK_TABLE_FULL) {
+    int not_taken = call == free_some && number == MEMBLOCK_NOT_TAKEN;
+    if (number != MEMBLOCK_DONE && number != MEMBLOCK_TABLE_FULL && !not_taken) {
         fprintf(stderr, "looks: %s answers %u\n", c->name, number);
         exit(1);
     }
     if (!checked)
         end_with("looks: no check of the block is seen\n");
+    return not_taken;
 }
+
+static size_t most, most_of_free;
 
 /* The looks for the place of the range. */
 static size_t looks_for_place(const struct tried *c, const uint8_t *saved, uint64_t base, uint64_t size)
@@ -302,7 +309,7 @@ static size_t looks_for_place(const struct tried *c, const uint8_t *saved, uint6
         before[i] = looked_at[i];
     if (c->before == set && others != 0)
         end_with("looks: some are left of the check\n");
-    watch(c, c->call, saved, base, size);
+    int not_taken = watch(c, c->call, saved, base, size);
     for (size_t i = 0; i < others; i++)
         if (i >= looks || looked_at[i] != before[i])
             end_with("looks: allocate does not search as find does\n");
@@ -325,6 +332,14 @@ static size_t looks_for_place(const struct tried *c, const uint8_t *saved, uint6
     }
     if (!(seen_below && seen_at))
         end_with("looks: none at the records beside the place\n");
+
+    if (c->call == free_some && not_taken == (first < records && from >= STEP * first + BEGIN && to <= STEP * first + END))
+        end_with("looks: free answers 12 for what is taken, or not for what is not\n");
+    if (not_taken) {
+        size_t behind = looks - count, walked = stop - first + (stop < records);
+        if (behind > walked + most_of_free)
+            most_of_free = behind - walked;
+    }
     return count;
 }
 
@@ -341,8 +356,6 @@ static void fill(const struct tried *c, uint8_t *block)
         end_with("looks: a call that fills a table is refused\n");
 }
 
-static size_t most;
-
 static void look(const struct tried *c, const uint8_t *saved, uint64_t at, uint64_t size)
 {
     size_t count = looks_for_place(c, saved, ORIGIN + at, size);
@@ -355,7 +368,8 @@ static void look(const struct tried *c, const uint8_t *saved, uint64_t at, uint6
     }
 }
 
-/* At the gap before a record: apart from it, touching it, and touching the one before. Then, as allocate cannot, inside and over records. */
+/* At the gap before a record: apart from it, touching it, and touching the one before. Then, as allocate cannot, inside, on and over
+ * records. */
 static void look_around(const struct tried *c, const uint8_t *saved, uint64_t record)
 {
     look(c, saved, STEP * record, 1);
@@ -365,6 +379,7 @@ static void look_around(const struct tried *c, const uint8_t *saved, uint64_t re
     if (c->call == allocate)
         return;
     look(c, saved, STEP * record + BEGIN + 1, 1);
+    look(c, saved, STEP * record + BEGIN, END - BEGIN);
     look(c, saved, STEP * record + BEGIN + 1, 3 * STEP);
 }
 
@@ -414,6 +429,9 @@ int main(void)
         if (most != digits(records))
             end_with("looks: the most is not reached\n");
     }
+    printf("looks: free: to answer 12 at most %zu look more\n", most_of_free);
+    if (most_of_free != 1)
+        end_with("looks: free answers 12 by another number of looks than one\n");
     try_step(2, saved, 0);
     try_step(4, saved, 1);
     try_step(2 * TAKEN_CAPACITY, saved, 1);

@@ -136,6 +136,17 @@ impl<B: AsRef<[u8]>> Block<B> {
             .chunks_exact(RECORD)
             .map(Record::read)
     }
+
+    /// Whether every address of the range is taken. Taken records never touch, so that
+    /// one of them has them all.
+    pub fn is_taken(&self, base: u64, size: u64) -> bool {
+        let end = base.saturating_add(size);
+        let mut from_base = self
+            .records(Which::Taken)
+            .skip_while(|record| record.end() <= base);
+        let has = |record: Record| record.base <= base && end <= record.end();
+        base == end || from_base.next().is_some_and(has)
+    }
 }
 
 impl<B: AsRef<[u8]> + AsMut<[u8]>> Block<B> {

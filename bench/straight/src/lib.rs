@@ -1,7 +1,7 @@
 //! The twelve commands of document 01 and the E820 intake of request E1, on the
-//! block of request E4, with the flags and wishes of request E6 and the image end of
-//! request E7, as plain Rust: the program that the library's speed is held against.
-//! Same rules, same numbers, same bytes.
+//! block of request E4, with the flags and wishes of request E6, the image end of
+//! request E7 and the frees of request E10, as plain Rust: the program that the
+//! library's speed is held against. Same rules, same numbers, same bytes.
 
 #![forbid(unsafe_code)]
 
@@ -27,6 +27,7 @@ pub const TABLE_FULL: u32 = 6;
 pub const BAD_DIRECTION: u32 = 7;
 pub const BAD_SLIP: u32 = 8;
 pub const BAD_REPORT: u32 = 10;
+pub const NOT_TAKEN: u32 = 12;
 
 /// The node that means any.
 pub const ANY_NODE: u32 = u32::MAX;
@@ -99,7 +100,13 @@ pub fn reserve(block: &mut [u8], base: u64, size: u64) -> u32 {
 
 #[inline(never)]
 pub fn free(block: &mut [u8], base: u64, size: u64) -> u32 {
-    change(block, Which::Taken, base, size, |_| None)
+    let Some(mut block) = Block::check(block) else {
+        return BAD_BLOCK;
+    };
+    if !block.is_taken(base, size) {
+        return NOT_TAKEN;
+    }
+    block.change(Which::Taken, base, size, |_| None)
 }
 
 #[inline(never)]

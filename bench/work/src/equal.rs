@@ -5,12 +5,16 @@ use crate::sides::{
     call_both, entry, Block, Call, Side, Straight, ANY_NODE, HOTPLUG, LENGTH, MIRROR, NO_MAP,
 };
 
+/// Where the taken records begin.
+const TAKEN_AT: usize = 3152;
+
 /// Makes this many calls; fails at the first difference.
 pub fn random_calls<Other: Side>(calls: u64) {
     let mut rng = Rng(1);
     let mut block = Block::fresh();
-    let mut seen = [0u64; 11];
+    let mut seen = [0u64; 13];
     let mut taken_full = false;
+    let mut freed = 0u64;
     let (mut above, mut other_way) = (false, false);
     for turn in 0..calls {
         let wide = turn % 4000 < 2000;
@@ -20,7 +24,10 @@ pub fn random_calls<Other: Side>(calls: u64) {
         if turn % 6000 == 4000 {
             fill_taken::<Other>(&mut block, wide);
         }
-        let call = random_call(&mut rng, wide);
+        let mut call = random_call(&mut rng, wide);
+        if let Call::Free(..) = call {
+            call = around_taken(&mut rng, &block, call);
+        }
         if rng.between(0, 19) == 0 {
             let mut damaged = damaged(&mut rng, &block);
             seen[call_both::<Other>(call, &mut damaged) as usize] += 1;
@@ -33,6 +40,9 @@ pub fn random_calls<Other: Side>(calls: u64) {
         seen[number as usize] += 1;
         if let Call::Reserve(..) | Call::Free(..) | Call::Allocate(..) = call {
             taken_full |= number == straight::TABLE_FULL;
+        }
+        if let Call::Free(base, size) = call {
+            freed += u64::from(number == straight::DONE && base.saturating_add(size) > base);
         }
         if turn % 20 == 0 {
             // An intake trims small ranges away: mostly go on from the block before.
@@ -49,10 +59,15 @@ pub fn random_calls<Other: Side>(calls: u64) {
             }
         }
     }
-    // 8 needs a slip of another length and is left to the tests; there is no 9.
+    // 8 needs a slip of another length and is left to the tests; there is no 9 and no 11.
     let met = |number: usize| seen[number] > 0;
-    assert!((0..8).chain([10]).all(met), "not every number met");
+    assert!((0..8).chain([10, 12]).all(met), "not every number met");
     assert!(taken_full, "the taken table was never full");
+    // Of the calls a tenth are frees.
+    assert!(
+        freed > calls / 40 && seen[straight::NOT_TAKEN as usize] > calls / 40,
+        "too few frees done, or refused"
+    );
     assert!(
         above && other_way,
         "no search went up from an image end, or none the other way"
@@ -76,6 +91,29 @@ fn from_image_end(call: Call, block: &Block) -> Option<i128> {
     let mut slip = [0; 16];
     let done = Straight::call(call, &mut block.clone(), &mut slip) == straight::DONE;
     done.then(|| i128::from(number(0, &slip)) - i128::from(image_end))
+}
+
+/// Mostly a free around some taken record: all of it, a part, or one address more.
+fn around_taken<'a>(rng: &mut Rng, block: &Block, any: Call<'a>) -> Call<'a> {
+    let number = |at: usize| u64::from_le_bytes(block.0[at..at + 8].try_into().expect("8 bytes"));
+    let count = number(32) & 0xffff_ffff;
+    if count == 0 || rng.between(0, 3) == 0 {
+        return any;
+    }
+    let at = TAKEN_AT + 24 * rng.between(0, count - 1) as usize;
+    let (mut base, mut size) = (number(at), number(at + 8));
+    if rng.between(0, 1) == 0 {
+        let front = rng.between(0, size - 1);
+        base += front;
+        size -= front;
+    }
+    match rng.between(0, 5) {
+        0 | 1 => size = rng.between(1, size),
+        2 => size = size.saturating_add(1),
+        3 => (base, size) = (base.saturating_sub(1), size.saturating_add(1)),
+        _ => (),
+    }
+    Call::Free(base, size)
 }
 
 /// As many taken records as there may be, where random calls have their ranges.

@@ -71,7 +71,7 @@ fn main() {
             parts
         } else {
             let mut parts = parts::<Before>();
-            if knows_no_image() {
+            if knows_no_image() || frees_what_is_not_taken() {
                 parts[0].1 = equal_left_out;
             }
             parts
@@ -108,10 +108,16 @@ fn knows_no_image() -> bool {
     Before::call(call, &mut block, &mut [0; 16]) == straight::BAD_BLOCK
 }
 
+/// Whether the archive beside is from before request E10.
+fn frees_what_is_not_taken() -> bool {
+    Before::call(Call::Free(0, 1), &mut Block::fresh(), &mut [0; 16]) == straight::DONE
+}
+
 fn equal_left_out() {
     println!(
-        "bench: equal left out: the archive beside is from before request E6 or E7, and has \
-         other rules for flags, or no image end; the calls of the other parts are the same on both"
+        "bench: equal left out: the archive beside is from before request E6, E7 or E10, and has \
+         other rules for flags or frees, or no image end; the calls of the other parts are the \
+         same on both"
     );
 }
 

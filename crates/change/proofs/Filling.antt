@@ -6,7 +6,7 @@ use mathlib.Core.List.{List, [], _∷_, _++_, append-assoc}
 use mathlib.Core.Logic.{_⊎_, inl, inr}
 use native.Mathlib.Omega.{arith}
 use lib.Dec.{leb}
-use lib.ListN.{length, take, drop, take-append-drop}
+use lib.ListN.{length, take, drop}
 use Rattle.address.proofs.Tests.{le-or-lt, zero-not-one}
 use Rattle.regions.specs.declared.State.{State}
 use borrow.Author.Tests.{leb-true, leb-false, le-leb, not-true, not-false}
@@ -25,8 +25,7 @@ use Rattle.regions.specs.Changes.{change, after}
 use Rattle.regions.specs.Bytes.{number, readRegion, readRegions, tableBytes}
 use Rattle.regions.proofs.Push.{same-true, same-self, joins-true}
 use Rattle.regions.proofs.Rises.{Fits, Rises, ended, next, Canonical, reach, edge, rises-Rises, Rises-rises}
-use Rattle.regions.proofs.RoundTrip.{canonical-shortest, join-snoc, rises-end, at-here, at-past}
-use Rattle.regions.proofs.Prefix.{rest-rises}
+use Rattle.regions.proofs.RoundTrip.{canonical-shortest, join-snoc, at-here, at-past}
 use Rattle.regions.proofs.Middle.{starts, canonical-part}
 use Rattle.regions.proofs.Gap.{fill-apart, fill-meets, fill-total}
 use Rattle.regions.proofs.Count.{sizes, total-sizes, total-le}
@@ -42,6 +41,7 @@ use Rattle.records.specs.Steps.{endingBy, put, Table, Whole}
 use Rattle.change.specs.Steps.{clearTo, Stored, JoinedBelow, JoinedAbove, Fills, GapAs, Vacant}
 use Rattle.records.proofs.Placing.{further, ending-reach, ending-above, ending-past, place-le}
 use Rattle.records.proofs.Placing.{take-read, drop-read}
+use Rattle.change.proofs.Parts.{halves, whole, none-left, rest, behind, past}
 use Rattle.change.proofs.Splicing.{splice-full, put-done}
 
 -- ---- is it free
@@ -140,12 +140,6 @@ module _ (l : List ℕ) (i : ℕ) (lo : Address) (tag : Tag) where
 -- ---- above
 
 module _ (l : List ℕ) (n i : ℕ) (hi : Address) (tag : Tag) (w : Table l n) (k : i ≤ n) (t : hi .0 ≤ top) (f : clearTo (hi .0) (drop i (readRegions n l)) ≡ true) where
-  halves : take i (readRegions n l) ++ drop i (readRegions n l) ≡ readRegions n l
-  halves = take-append-drop i (readRegions n l)
-
-  whole : Canonical top (take i (readRegions n l) ++ drop i (readRegions n l))
-  whole = rw halves (rises-Rises 0 Absent top (readRegions n l) (w .rising))
-
   free : hi .0 ≤ starts top (drop i (readRegions n l))
   unfolding starts clearTo
   free = go (drop i (readRegions n l)) f
@@ -157,7 +151,7 @@ module _ (l : List ℕ) (n i : ℕ) (hi : Address) (tag : Tag) (w : Table l n) (
   filled-total : (lo : ℕ) → lo < hi .0 → i ≡ endingBy lo (readRegions n l)
       → total (after (change (Fill tag)) lo (hi .0) (at (readRegions n l))) top ≡ total (at (readRegions n l)) top + (hi .0 - lo)
   filled-total lo h e =
-      rw halves at (fill-total tag lo (hi .0) top (take i (readRegions n l)) (drop i (readRegions n l)) whole h (rw e (ending-reach lo 0 (readRegions n l) (omega arith))) free t)
+      rw (halves l n i w k) at (fill-total tag lo (hi .0) top (take i (readRegions n l)) (drop i (readRegions n l)) (whole l n i w k) h (rw e (ending-reach lo 0 (readRegions n l) (omega arith))) free t)
 
   -- nothing above joins
   as-is : Rises (hi .0) (Present tag) top (drop i (readRegions n l)) → JoinedAbove (readRegions n l) i (hi .0) tag (record { at = i; bound = hi })
@@ -167,24 +161,16 @@ module _ (l : List ℕ) (n i : ℕ) (hi : Address) (tag : Tag) (w : Table l n) (
         most = omega (arith, read-regions-length n l);
         high = omega arith;
         small = t;
-        filled = λ lo h e. rw halves at (fill-apart tag lo (hi .0) top (take i (readRegions n l)) (drop i (readRegions n l)) whole h (rw e (ending-reach lo 0 (readRegions n l) (omega arith))) free u);
+        filled = λ lo h e. rw (halves l n i w k) at (fill-apart tag lo (hi .0) top (take i (readRegions n l)) (drop i (readRegions n l)) (whole l n i w k) h (rw e (ending-reach lo 0 (readRegions n l) (omega arith))) free u);
       }
 
   pub over-end : n ≤ i → JoinedAbove (readRegions n l) i (hi .0) tag (record { at = i; bound = hi })
-  over-end h = as-is (rw (drop-read i n l k, read-regions-end i n (drop (24 * i) l) h) (ended t))
+  over-end h = as-is (rw (none-left l n i w k h) (ended t))
 
   module _ (h : i < n) (r : Region) (here : r ≡ readRegion (drop (24 * i) l)) where
-    rest : drop i (readRegions n l) ≡ r ∷ drop (i + 1) (readRegions n l)
-    rest =
-        let j : i + 1 ≤ n = omega arith in
-        drop-read i n l k ∙ read-regions-rest i n l h ∙ rw (← here, drop-read (i + 1) n l j)
-
-    behind : Rises (reach 0 (take i (readRegions n l))) (edge Absent (take i (readRegions n l))) top (r ∷ drop (i + 1) (readRegions n l))
-    behind = rw rest at (rest-rises (take i (readRegions n l)) (drop i (readRegions n l)) whole)
-
     apart : (hi .0 ≡ r .base .0 → Present tag ≡ Present (r .tag) → ⊥) → JoinedAbove (readRegions n l) i (hi .0) tag (record { at = i; bound = hi })
     unfolding starts
-    apart d = as-is (rw rest (go behind (rw rest at free)))
+    apart d = as-is (rw (rest l n i w k h r here) (go (behind l n i w k h r here) (rw (rest l n i w k h r here) at free)))
       where
         go : Rises (reach 0 (take i (readRegions n l))) (edge Absent (take i (readRegions n l))) top (r ∷ drop (i + 1) (readRegions n l))
             → hi .0 ≤ starts top (r ∷ drop (i + 1) (readRegions n l)) → Rises (hi .0) (Present tag) top (r ∷ drop (i + 1) (readRegions n l))
@@ -203,29 +189,23 @@ module _ (l : List ℕ) (n i : ℕ) (hi : Address) (tag : Tag) (w : Table l n) (
         let c : b ≡ false = not-true b e in
         absurd (zero-not-one cc))
 
-    past : end r ≤ top
-    past = go behind
-      where
-        go : Rises (reach 0 (take i (readRegions n l))) (edge Absent (take i (readRegions n l))) top (r ∷ drop (i + 1) (readRegions n l)) → end r ≤ top
-        go (next j v) = rises-end v
-
     pub over-past : (x : CheckedAddress) → x ≡ address (end r) → x ≡ Outside → (s : Side) → JoinedAbove (readRegions n l) i (hi .0) tag s
-    over-past x q e s = absurd (omega (arith, past, top-is, address-outside (end r) x q e))
+    over-past x q e s = absurd (omega (arith, past l n i w k h r here, top-is, address-outside (end r) x q e))
 
     pub over-grown : r .base .0 ≡ hi .0 → (b : Bool) → b ≡ sameTag (r .tag) tag → not b ≡ false → (x : CheckedAddress) → x ≡ address (end r) → (o : Address) → x ≡ At o
         → JoinedAbove (readRegions n l) i (hi .0) tag (record { at = i + 1; bound = o })
     over-grown eb b q e x p o f =
         let g = same-true (r .tag) tag (sym q ∙ not-false b e) in
         let m : o .0 ≡ end r = address-at (end r) x o p f .0 in
-        let v : take i (readRegions n l) ++ (r ∷ drop (i + 1) (readRegions n l)) ≡ readRegions n l = rw (← rest) halves in
+        let v : take i (readRegions n l) ++ (r ∷ drop (i + 1) (readRegions n l)) ≡ readRegions n l = rw (← rest l n i w k h r here) (halves l n i w k) in
         record {
           least = omega arith;
           most = omega (arith, read-regions-length n l);
           high = omega arith;
-          small = omega (arith, past);
-          filled = λ lo h c.
+          small = omega (arith, past l n i w k h r here);
+          filled = λ lo j c.
               let d : hi .0 - lo + r .size .0 ≡ o .0 - lo = omega arith in
-              rw (v, d) at (fill-meets tag lo (hi .0) top (take i (readRegions n l)) (drop (i + 1) (readRegions n l)) r (rw rest at whole) h (rw c (ending-reach lo 0 (readRegions n l) (omega arith))) eb g);
+              rw (v, d) at (fill-meets tag lo (hi .0) top (take i (readRegions n l)) (drop (i + 1) (readRegions n l)) r (rw (rest l n i w k h r here) at (whole l n i w k)) j (rw c (ending-reach lo 0 (readRegions n l) (omega arith))) eb g);
         }
 
 -- ---- one record for both sides

@@ -1,4 +1,6 @@
+pub mod Allowing
 pub mod Filling
 pub mod Meeting
+pub mod Parts
 pub mod Rebuilding
 pub mod Splicing

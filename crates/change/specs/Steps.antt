@@ -1,7 +1,7 @@
 -- A range of one table changed: the records met, what becomes of them, a gap. Only inner contracts and proofs cite this module. Assumes nothing.
 use Prim.Native.Nat.{ℕ, suc, _+_, _-_, _/_, _<_, _≤_}
 use mathlib.Core.Path.{_≡_}
-use mathlib.Core.Bool.{Bool, true, cond}
+use mathlib.Core.Bool.{Bool, true, false, cond}
 use mathlib.Core.List.{List, [], _∷_, _++_}
 use mathlib.Core.Logic.{_⊎_}
 use lib.Dec.{leb}
@@ -20,7 +20,7 @@ use Rattle.change.specs.declared.gap.Gap.the-variants.{At, Nowhere}
 use Rattle.lists.specs.declared.Edit.{Edit}
 use Rattle.records.specs.declared.table.Tally.{Tally}
 use Rattle.change.specs.declared.inplace.Changed.{Changed}
-use Rattle.change.specs.declared.inplace.Changed.the-variants.{To, NoRoom}
+use Rattle.change.specs.declared.inplace.Changed.the-variants.{To, NoRoom, Missing}
 use Rattle.change.specs.declared.inplace.Met.{Met}
 use Rattle.change.specs.declared.inplace.Tried.{Tried}
 use Rattle.change.specs.declared.inplace.Tried.the-variants.{Done, More}
@@ -37,6 +37,11 @@ startingBy a (r ∷ rs) = cond (leb (r .base .0) a) (suc (startingBy a rs)) 0
 abbrev pub AllTagged : Tag → List Region → Type 0
 AllTagged t [] = Unit {0}
 AllTagged t (r ∷ rs) = (r .tag ≡ t) × AllTagged t rs
+
+-- all regions have one tag
+pub record OneTagged (xs : List Region) : Type 0 where
+  pub tag : Tag
+  pub all : AllTagged tag xs
 
 -- the change makes one state of every address of a range, whatever the list says of it
 abbrev pub Uniform : Change → List Region → Type 0
@@ -61,6 +66,11 @@ storedBytes cap xs t = cond (leb (length xs) cap) (tableBytes cap xs) t
 pub record Stored (t e : List ℕ) (xs : List Region) (a : Changed) : Type 0 where
   pub answer : a ≡ storedAnswer (length t / 24) xs
   pub after : e ≡ storedBytes (length t / 24) xs t
+
+-- the same if the change is allowed; else the bytes are as they were, and it is answered that addresses are missing
+pub record StoredIf (ok : Bool) (t e : List ℕ) (xs : List Region) (a : Changed) : Type 0 where
+  pub yes : ok ≡ true → Stored t e xs a
+  pub no : ok ≡ false → (a ≡ Missing) × (e ≡ t)
 
 -- a table, a change of it, and the records that its range meets or touches
 pub record Meets (t : List ℕ) (y : Tally) (d : Edit) (m : Met) : Type 0 where

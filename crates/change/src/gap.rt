@@ -1,5 +1,6 @@
 // A range that no record meets is filled by one record: the one below grows, or the one above, or both become one, or it is put between them.
 use crate::inplace::Changed;
+use crate::inplace::allowed;
 use crate::inplace::meet;
 use crate::inplace::rebuild;
 use address::Address;
@@ -21,10 +22,10 @@ ghost use Prim.Native.Nat.{_+_, _*_, _-_, _<_, _≤_};
 ghost use lib.ListN.{length, drop};
 ghost use Rattle.regions.specs.declared.Change.the-variants.{Fill};
 ghost use Rattle.regions.specs.Meaning.{at, shortest, top};
-ghost use Rattle.regions.specs.Changes.{change, after};
+ghost use Rattle.regions.specs.Changes.{change, after, allowed as allowedOf};
 ghost use Rattle.regions.specs.Bytes.{readRegions};
 ghost use Rattle.records.specs.Steps.{Table, Whole, endingBy};
-ghost use Rattle.change.specs.Steps.{Changeable, Stored, clearTo, Vacant, GapAs, JoinedBelow, JoinedAbove};
+ghost use Rattle.change.specs.Steps.{OneTagged, Changeable, Stored, StoredIf, clearTo, Vacant, GapAs, JoinedBelow, JoinedAbove};
 ghost use Rattle.lists.specs.Steps.{finished};
 
 // Where a filled stretch begins or ends among the records, and at which address.
@@ -168,15 +169,18 @@ fn gap_of(t: &[u8], count: usize, first: usize, edit: Edit) -> Gap
     Gap::At(at, tag)
 }
 
-// Makes a table hold the finished shortest list, if it has room.
-pub fn change_table(t: &mut [u8], tally: Tally, edit: Edit) -> Changed
-    requires { ⌜ Whole (now t) tally × Changeable (now t) tally edit ⌝ }
-    ensures { λ r. ⌜ Stored (now (t .entry)) (now (t .exit)) (finished edit (readRegions (tally .count) (now (t .entry)))) r ⌝ }
+// Makes a table hold the finished shortest list, if the change is allowed and there is room.
+pub fn change_table(t: &mut [u8], tally: Tally, strict: bool, edit: Edit) -> Changed
+    requires { ⌜ Whole (now t) tally × (Changeable (now t) tally edit × (strict ≡ true → OneTagged (readRegions (tally .count) (now t)))) ⌝ }
+    ensures { λ r. ⌜ StoredIf (allowedOf strict (edit .lo .0) (edit .hi .0) (readRegions (tally .count) (now (t .entry)))) (now (t .entry)) (now (t .exit)) (finished edit (readRegions (tally .count) (now (t .entry)))) r ⌝ }
 {
     let lo = edit.lo;
     let hi = edit.hi;
     let count = tally.count as usize;
     let met = meet(t, count, lo, hi);
+    if !allowed(t, count, met.first, strict, lo, hi) {
+        return Changed::Missing;
+    }
     let Gap::At(i, tag) = gap_of(t, count, met.first, edit) else {
         return rebuild(t, tally, met, edit);
     };

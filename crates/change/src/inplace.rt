@@ -1,5 +1,6 @@
 // A change over a range of a table, in place: only the records that the range meets or touches are built anew, and the rest is moved.
 use address::Address;
+use address::CheckedAddress;
 use address::Size;
 use lists::Edit;
 use lists::Pushed;
@@ -8,6 +9,7 @@ use moves::replace;
 use records::table::Tally;
 use records::table::place;
 use records::table::total_of;
+use regions::bytes::get_region;
 use regions::bytes::get_u64;
 ghost use mathlib.Core.Path.{_≡_};
 ghost use mathlib.Core.Bool.{true};
@@ -18,13 +20,15 @@ ghost use Rattle.regions.specs.Meaning.{top};
 ghost use Rattle.regions.specs.Lists.{rises};
 ghost use Rattle.regions.specs.Bytes.{readRegions};
 ghost use Rattle.records.specs.Steps.{Table, Whole, endingBy, put};
-ghost use Rattle.change.specs.Steps.{Meets, Stored, TriedAs, startingBy};
+ghost use Rattle.regions.specs.Changes.{allowed as allowedOf};
+ghost use Rattle.change.specs.Steps.{OneTagged, Meets, Stored, TriedAs, startingBy};
 ghost use Rattle.lists.specs.Steps.{finished};
 
-// A changed table's count and total, or that it has no room.
+// A changed table's count and total, or that it has no room, or not every address that it must have.
 pub enum Changed {
     To(Tally),
     NoRoom,
+    Missing,
 }
 
 // What became of a try in a scratch table: the answer, or that it needs a larger one.
@@ -72,6 +76,31 @@ pub fn meet(t: &[u8], count: usize, lo: Address, hi: Address) -> Met
     let first = place(t, count, below(lo));
     let stop = starting_by(t, count, first, hi);
     Met { first, stop }
+}
+
+// Whether a change from `lo` up to, not including, `hi` is allowed: a strict one must find every address in the table, and so, where all records have one
+// tag, in one record; `first` of them end below `lo`. One look at a record.
+pub fn allowed(t: &[u8], count: usize, first: usize, strict: bool, lo: Address, hi: Address) -> bool
+    requires { ⌜ Table (now t) count × ((first ≡ endingBy (lo .0 - 1) (readRegions count (now t))) × (strict ≡ true → OneTagged (readRegions count (now t)))) ⌝ }
+    ensures { λ b. ⌜ b ≡ allowedOf strict (lo .0) (hi .0) (readRegions count (now (t .entry))) ⌝ }
+{
+    if !strict {
+        return true;
+    }
+    if hi.0 <= lo.0 {
+        return true;
+    }
+    if count <= first {
+        return false;
+    }
+    let r = get_region(t, 24 * first);
+    let CheckedAddress::At(end) = r.end() else {
+        return false;
+    };
+    if lo.0 < r.base.0 {
+        return false;
+    }
+    hi.0 <= end.0
 }
 
 // Puts the first `n` records of `src` in the place of those met, if there is room.

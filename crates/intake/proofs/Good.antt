@@ -10,7 +10,7 @@ use Rattle.address.specs.Numbers.{powerBelow}
 use Rattle.regions.specs.declared.Kind.the-variants.{Taken}
 use Rattle.block.specs.Block.{current, offset, good}
 use Rattle.range.specs.Outcomes.{Outcome, outcome}
-use Rattle.tables.specs.Commands.{Command, table, legalVerb, commandOutcome, trim}
+use Rattle.tables.specs.Commands.{Command, table, legalVerb, strict, commandOutcome, trim}
 use Rattle.tables.proofs.Good.{command-good, command-number, trim-good}
 use Rattle.tables.proofs.Front.{command-front, trim-front}
 use Rattle.intake.specs.declared.e820.Entry.{Entry}
@@ -65,8 +65,8 @@ entries-front es b g =
 abbrev DoneOrFull : Outcome → Type 0
 DoneOrFull o = (o .number ≡ 0) ⊎ (o .number ≡ 6)
 
--- legal commands in turn are done, or one finds its table full
-commands-number : (cs : List Command) → ((c : Command) → List·Memᴰ c cs → legalVerb (c .verb) ≡ true) → (b : List ℕ) → good current b ≡ true
+-- legal commands in turn, none strict, are done, or one finds its table full
+commands-number : (cs : List Command) → ((c : Command) → List·Memᴰ c cs → (legalVerb (c .verb) ≡ true) × (strict (c .verb) ≡ false)) → (b : List ℕ) → good current b ≡ true
     → DoneOrFull (inTurn (steps current cs) b)
 unfolding inTurn
 commands-number [] h b g = inl refl
@@ -78,7 +78,7 @@ commands-number (c ∷ cs) h b g = go (eqb (o .number) 0) refl (commands-number 
     go : (t : Bool) → eqb (o .number) 0 ≡ t → ((d : List ℕ) → good current d ≡ true → DoneOrFull (inTurn (steps current cs) d))
         → DoneOrFull (cond t (inTurn (steps current cs) (o .block)) o)
     go true e ih = ih (o .block) (command-good b g c)
-    go false e ih = command-number b g c (h c (List·Memᴰ·head refl))
+    go false e ih = let w = h c (List·Memᴰ·head refl) in command-number b g c (w .0) (w .1)
 
 in-turn-number : (es : List Entry) (b : List ℕ) → good current b ≡ true → DoneOrFull (inTurn (entrySteps current es) b)
 unfolding entrySteps trim powerBelow
@@ -89,7 +89,7 @@ in-turn-number es b g = rw (turn-both (steps current (commands es)) (trim curren
 
     go : (t : Bool) → DoneOrFull (cond t (inTurn (trim current 4096 ∷ []) (o .block)) o)
     go true = rw (turn-last (trim current 4096) (o .block), commands-good (commands es) b g) (inl refl)
-    go false = commands-number (commands es) (λ c m. ap legalVerb (all-adds es c m) ∙ plain-legal) b g
+    go false = commands-number (commands es) (λ c m. (ap legalVerb (all-adds es c m) ∙ plain-legal, ap strict (all-adds es c m))) b g
 
 -- ---- the whole
 

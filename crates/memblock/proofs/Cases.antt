@@ -12,7 +12,7 @@ use Rattle.regions.specs.declared.Kind.{Kind}
 use Rattle.regions.specs.declared.Kind.the-variants.{Memory, Taken}
 use Rattle.regions.specs.Meaning.{at, sameTag, join, push, total, top}
 use Rattle.regions.specs.Lists.{fits, rises, legal, legalTag}
-use Rattle.regions.specs.Changes.{change}
+use Rattle.regions.specs.Changes.{change, allPresent}
 use Rattle.regions.specs.Trim.{roundEach}
 use Rattle.regions.specs.Bytes.{bytes}
 use Rattle.regions.specs.Steps.{stretch}
@@ -176,7 +176,7 @@ all-right (c ∷ cs) e =
     (right-holds c (p .0), all-right cs (p .1))
 
 cases-right : allRight cases ≡ true
-unfolding allRight right sameSlips sameRegions sameRegion cases capacity allComputable computeAll ended compute computable sameBytes sizes powerBelow fits rises legal legalTag change roundEach bytes push join stretch table.walk table.update cutLow cutHigh fitLow fitHigh walks.gaps walks.walk walks.onto walks.falling
+unfolding allRight right sameSlips sameRegions sameRegion cases capacity allComputable computeAll ended compute computable sameBytes sizes powerBelow fits rises legal legalTag change roundEach allPresent at bytes push join stretch table.walk table.update cutLow cutHigh fitLow fitHigh walks.gaps walks.walk walks.onto walks.falling
 cases-right = refl
 
 -- the marked cases

@@ -1,4 +1,4 @@
--- Calls worked out on what a block says: an executable twin of the definitions, for calls that no check refuses. Assumes nothing.
+-- Calls worked out on what a block says: an executable twin of the definitions, for calls whose own numbers pass the checks. Assumes nothing.
 use Prim.Native.Nat.{ℕ, _+_, _≤_, _<_, min, max}
 use mathlib.Core.Path.{_≡_, refl, sym, ap, ap₂, _∙_}
 use mathlib.Core.Bool.{Bool, true, false, cond, _&&_}
@@ -21,7 +21,7 @@ use Rattle.regions.specs.declared.Change.{Change}
 use Rattle.regions.specs.declared.Change.the-variants.{Fill}
 use Rattle.regions.specs.Meaning.{top, top-is}
 use Rattle.regions.specs.Lists.{rises, legal, goodList}
-use Rattle.regions.specs.Changes.{change, cut, changed}
+use Rattle.regions.specs.Changes.{change, cut, changed, allowed}
 use Rattle.regions.specs.Runs.{runAt}
 use Rattle.regions.specs.Trim.{roundEach}
 use Rattle.regions.proofs.Rises.{Canonical}
@@ -30,8 +30,8 @@ use Rattle.regions.proofs.Trim.{trim-rounds}
 use Rattle.regions.proofs.Update.{update}
 use Rattle.regions.proofs.Update.{update-shortest}
 use Rattle.block.specs.Block.{current, capacity, Contents, listOf, withList, withSettings, settings, withImage, blockBytes, contents, goodTable, goodContents, good}
-use Rattle.range.specs.Outcomes.{outcome, store, tag, changeRange}
-use Rattle.tables.specs.Commands.{Command, table, changeOf, legalVerb, commandOutcome, set, setImageEnd, trim}
+use Rattle.range.specs.Outcomes.{outcome, unless, store, tag, changeRange}
+use Rattle.tables.specs.Commands.{Command, table, changeOf, legalVerb, strict, commandOutcome, set, setImageEnd, trim}
 use Rattle.block.proofs.Blocks.{lists-ok}
 use Rattle.block.proofs.Reading.{Spellable, contents-spelled, good-spelled-block}
 use Rattle.block.proofs.Layouts.{small-current}
@@ -88,6 +88,10 @@ edited s k c base size = update (change c) base (min (base + size) 1844674407370
 abbrev kept : Contents → Kind → List Region → List ℕ → List ℕ → Result
 kept s k xs done full = cond (leb (length xs) (capacity current k)) (result 0 (withList s k xs) done) (result 6 s full)
 
+-- a command may change its range
+abbrev may : Contents → Command → Bool
+may s c = allowed (strict (c .verb)) (c .base) (min (c .base + c .size) 18446744073709551615) (listOf s (table (c .verb)))
+
 -- what a walk finds
 abbrev walked : Way → Contents → Query → Option Hit
 walked v s w = walk v w (along v (s .memory)) (along v (s .taken))
@@ -114,7 +118,7 @@ unfoldable pub compute : Call → Contents → Result
 compute toFresh s = result 0 s []
 compute (toSet limit direction) s = result 0 (withSettings s (settings limit direction (s .settings .image .0))) []
 compute (toSetImageEnd image) s = result 0 (withSettings s (withImage (s .settings) image)) []
-compute (toCommand c) s = kept s (table (c .verb)) (edited s (table (c .verb)) (changeOf (c .verb)) (c .base) (c .size)) [] []
+compute (toCommand c) s = cond (may s c) (kept s (table (c .verb)) (edited s (table (c .verb)) (changeOf (c .verb)) (c .base) (c .size)) [] []) (result 12 s [])
 compute (toTrim align) s = result 0 (withList s Memory (roundEach align (s .memory))) []
 compute (toFind q slip) s = finds s (seek s q)
 compute (toNextFree from node wish slip) s = result 0 s []
@@ -122,7 +126,7 @@ compute (toAllocate q slip) s = takes s (q .size .0) (seek s q)
 compute (toIntake report) s = result 0 s []
 compute (toConvert old) s = result 0 s []
 
--- the call is one that this twin works out: no check refuses it
+-- the call is one that this twin works out: its own numbers pass the checks
 abbrev asks : Query → List ℕ → Bool
 asks q slip = eqb (length slip) 16 && eqb (refusal q) 0
 
@@ -210,15 +214,22 @@ module _ (s : Contents) (sp : Spellable current s) where
       → answerOf (toCommand c) (blockBytes current s) ≡ spelled (compute (toCommand c) s)
   unfolding answerOf commandOutcome compute
   command-computed c e h =
-      rw (isGood, e, range-is (table (c .verb)) (changeOf (c .verb)) (c .base) (c .size) h)
-      (go (leb (length (edited s (table (c .verb)) (changeOf (c .verb)) (c .base) (c .size))) (capacity current (table (c .verb)))))
+      rw (isGood, e, range-is (table (c .verb)) (changeOf (c .verb)) (c .base) (c .size) h, says, cut-is)
+      (go (may s c) (leb (length (edited s (table (c .verb)) (changeOf (c .verb)) (c .base) (c .size))) (capacity current (table (c .verb)))))
     where
-      go : (t : Bool)
-          → answer (cond t (outcome 0 (blockBytes current (withList s (table (c .verb)) (edited s (table (c .verb)) (changeOf (c .verb)) (c .base) (c .size))))) (outcome 6 (blockBytes current s)) .number)
-          (cond t (outcome 0 (blockBytes current (withList s (table (c .verb)) (edited s (table (c .verb)) (changeOf (c .verb)) (c .base) (c .size))))) (outcome 6 (blockBytes current s)) .block) []
-          ≡ spelled (cond t (result 0 (withList s (table (c .verb)) (edited s (table (c .verb)) (changeOf (c .verb)) (c .base) (c .size))) []) (result 6 s []))
-      go true = refl
-      go false = refl
+      cut-is : cut (c .base) (c .size) ≡ min (c .base + c .size) 18446744073709551615
+      cut-is = omega (arith, top-is)
+
+      done : List ℕ
+      done = blockBytes current (withList s (table (c .verb)) (edited s (table (c .verb)) (changeOf (c .verb)) (c .base) (c .size)))
+
+      go : (u t : Bool)
+          → answer (unless u 12 (blockBytes current s) (cond t (outcome 0 done) (outcome 6 (blockBytes current s))) .number)
+          (unless u 12 (blockBytes current s) (cond t (outcome 0 done) (outcome 6 (blockBytes current s))) .block) []
+          ≡ spelled (cond u (cond t (result 0 (withList s (table (c .verb)) (edited s (table (c .verb)) (changeOf (c .verb)) (c .base) (c .size))) []) (result 6 s [])) (result 12 s []))
+      go true true = refl
+      go true false = refl
+      go false t = refl
 
   trim-computed : (align : ℕ) → powerOfTwo align ≡ true → answerOf (toTrim align) (blockBytes current s) ≡ spelled (compute (toTrim align) s)
   unfolding answerOf compute trim

@@ -27,7 +27,7 @@ module _ (b : List ℕ) (g : good current b ≡ true) (base size : ℕ) (d : out
   abbrev freeing : Command
   freeing = command Free base size
 
-  freed : Made freeing b (outcomeOf freeing b .block)
+  pub freed : Made freeing b (outcomeOf freeing b .block)
   freed = go (step freeing b g)
     where
       go : Refused freeing b ⊎ Done freeing b → Made freeing b (outcomeOf freeing b .block)

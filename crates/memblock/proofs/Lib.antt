@@ -8,6 +8,7 @@ pub mod Computing
 pub mod Called
 pub mod Cases
 pub mod Freed
+pub mod FreedTwice
 pub mod Refusals
 pub mod Reports
 pub mod Editions

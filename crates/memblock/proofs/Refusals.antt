@@ -1,21 +1,23 @@
 -- Whatever the call and the bytes: a refusal leaves all as it was and a slip zero, and a call that is done leaves a good block. Assumes nothing.
 use Prim.Native.Nat.{ℕ}
-use mathlib.Core.Path.{_≡_, refl, ap, _∙_}
+use mathlib.Core.Path.{_≡_, refl, sym, ap, _∙_}
 use mathlib.Core.Bool.{Bool, true, false, cond, _&&_}
 use mathlib.Core.List.{List, []}
+use mathlib.Core.Logic.{_⊎_, inl, inr}
 use native.Mathlib.Omega.{arith}
 use lib.Dec.{leb, eqb}
 use lib.ListN.{length, replicate}
 use borrow.Author.Tests.{eq-eqb, eqb-true, eqb-false}
 use Rattle.address.specs.Numbers.{powerOfTwo}
+use Rattle.address.proofs.Tests.{clash}
 use Rattle.regions.specs.declared.Kind.the-variants.{Taken}
 use Rattle.regions.specs.declared.Change.the-variants.{Fill}
-use Rattle.block.specs.Block.{current, capacity, blockLength, contents, good}
+use Rattle.block.specs.Block.{current, blockLength, contents, good}
 use Rattle.tables.specs.declared.commands.Verb.the-variants.{Reserve}
-use Rattle.range.specs.Outcomes.{Outcome, unless, doneWith, store, changeRange, tag}
-use Rattle.tables.specs.Commands.{Command, command, table, legalVerb, commandOutcome, fresh, set, setImageEnd, trim}
+use Rattle.range.specs.Outcomes.{Outcome, unless, doneWith, changeRange, tag}
+use Rattle.tables.specs.Commands.{Command, command, commandOutcome, fresh, set, setImageEnd, trim}
 use Rattle.convert.specs.Convert.{goodOne, convert}
-use Rattle.tables.specs.DemandTwo.{finished}
+use Rattle.tables.proofs.Answered.{Refuses, Stores, refuses-or-stores}
 use Rattle.convert.proofs.Converting.{convert-sentence}
 use Rattle.tables.proofs.Good.{was-good, command-good, trim-good, set-good, image-good, fresh-good}
 use Rattle.intake.specs.Turns.{inTurn, wholly}
@@ -39,16 +41,13 @@ unless-keeps : (t : Bool) (n : ℕ) (b : List ℕ) (o : Outcome) → Keeps b o �
 unless-keeps true n b o h = h
 unless-keeps false n b o h = λ d. refl
 
--- so do two and three refusals in front of what is done
+-- so do one and two refusals in front of what is done
 module _ (b x : List ℕ) where
   one-keeps : (t : Bool) (n : ℕ) → Keeps b (unless t n b (doneWith x))
   one-keeps t n = unless-keeps t n b (doneWith x) (λ d. absurd (d refl))
 
   two-keep : (t u : Bool) (n m : ℕ) → Keeps b (unless t n b (unless u m b (doneWith x)))
   two-keep t u n m = unless-keeps t n b (unless u m b (doneWith x)) (one-keeps u m)
-
-  three-keep : (t u v : Bool) (n m k : ℕ) → Keeps b (unless t n b (unless u m b (unless v k b (doneWith x))))
-  three-keep t u v n m k = unless-keeps t n b (unless u m b (unless v k b (doneWith x))) (two-keep u v m k)
 
 -- what is so of an outcome on b
 record FairOutcome (b : List ℕ) (o : Outcome) : Type 0 where
@@ -74,12 +73,15 @@ module _ (b : List ℕ) where
       record { keeps = one-keeps b _ (good current b) 1; isGood = λ h. image-good b (was-good (good current b) b _ h) image }
 
   command-fair : (c : Command) → FairOutcome b (commandOutcome current c b)
-  unfolding commandOutcome store
-  command-fair c =
-      record {
-        keeps = three-keep b _ (good current b) (legalVerb (c .verb)) (leb (length (finished current c b)) (capacity current (table (c .verb)))) 1 2 6;
-        isGood = λ h. command-good b (was-good (good current b) b _ h) c;
-      }
+  command-fair c = go (refuses-or-stores current c b)
+    where
+      go : Refuses current c b ⊎ Stores current c b → FairOutcome b (commandOutcome current c b)
+      go (inl r) =
+          record {
+            keeps = λ d. ap (λ (o : Outcome). o .block) (r .is);
+            isGood = λ z. absurd (clash (eqb (r .number) 0) (eq-eqb (r .number) 0 (sym (ap (λ (o : Outcome). o .number) (r .is)) ∙ z)) (r .some));
+          }
+      go (inr s) = record { keeps = λ d. absurd (d (ap (λ (o : Outcome). o .number) (s .is))); isGood = λ z. command-good b (s .isGood) c }
 
   trim-fair : (align : ℕ) → FairOutcome b (trim current align b)
   unfolding trim

@@ -4,8 +4,7 @@ use mathlib.Core.Path.{_≡_, refl, ap, _∙_}
 use mathlib.Core.Bool.{Bool, true, false, cond, _&&_}
 use mathlib.Core.List.{List}
 use mathlib.Core.Logic.{_⊎_, inl, inr}
-use lib.Dec.{leb, eqb}
-use lib.ListN.{length}
+use lib.Dec.{eqb}
 use Rattle.regions.specs.declared.Kind.{Kind}
 use Rattle.regions.specs.declared.Kind.the-variants.{Memory, Taken}
 use Rattle.regions.specs.declared.Region.{Region}
@@ -15,9 +14,11 @@ use Rattle.regions.specs.Meaning.{inside, at}
 use Rattle.regions.specs.Lists.{goodList}
 use Rattle.regions.specs.Changes.{change, after, cut, changed}
 use Rattle.regions.proofs.Legal.{changed-at}
-use Rattle.block.specs.Block.{current, capacity, Contents, listOf, withList, blockBytes, contents, good}
-use Rattle.range.specs.Outcomes.{Outcome, outcome, store}
-use Rattle.tables.specs.Commands.{Command, table, changeOf, legalVerb, commandOutcome}
+use Rattle.block.specs.Block.{current, Contents, listOf, withList, blockBytes, contents, good}
+use Rattle.range.specs.Outcomes.{Outcome, outcome}
+use Rattle.tables.specs.Commands.{Command, table, changeOf}
+use Rattle.tables.specs.DemandTwo.{finished}
+use Rattle.tables.proofs.Answered.{Refuses, Stores, refuses-or-stores}
 use Rattle.tables.proofs.Verbs.{verb-keeps}
 use Rattle.block.proofs.Blocks.{lists-ok, good-contents}
 use Rattle.block.proofs.Layouts.{small-current}
@@ -70,18 +71,14 @@ with-settings Memory s xs = refl
 with-settings Taken s xs = refl
 
 module _ (d : Command) (b : List ℕ) (g : good current b ≡ true) where
-  -- the finished list of the table that the command works on
-  finished : List Region
-  finished = changed (changeOf (d .verb)) (d .base) (d .size) (listOf (contents current b) (table (d .verb)))
-
-  kept-made : (e : List ℕ) → Kept current (table (d .verb)) finished b e → Made d b e
-  unfolding finished made
+  kept-made : (e : List ℕ) → Kept current (table (d .verb)) (finished current d b) b e → Made d b e
+  unfolding made
   kept-made e h =
       let j : Kind = table (d .verb) in
       let s : Contents = contents current b in
       record {
         isGood = h .isGood;
-        settings = ap (λ (x : Contents). x .settings) (h .says) ∙ with-settings j s finished;
+        settings = ap (λ (x : Contents). x .settings) (h .says) ∙ with-settings j s (finished current d b);
         says =
             λ k a. ap (λ (x : Contents). at (listOf x k) a) (h .says)
             ∙ with-at j k s (changeOf (d .verb)) (d .base) (d .size) a (lists-ok current s (good-contents current b g) j);
@@ -91,15 +88,11 @@ module _ (d : Command) (b : List ℕ) (g : good current b ≡ true) where
   refused n z e = record { number = ap (λ (o : Outcome). eqb (o .number) 0) e ∙ z; block = ap (λ (o : Outcome). o .block) e }
 
   pub step : Refused d b ⊎ Done d b
-  unfolding finished commandOutcome store
-  step = go (legalVerb (d .verb)) refl (leb (length finished) (capacity current (table (d .verb)))) refl
+  step = go (refuses-or-stores current d b)
     where
-      go : (l : Bool) → legalVerb (d .verb) ≡ l → (m : Bool) → leb (length finished) (capacity current (table (d .verb))) ≡ m → Refused d b ⊎ Done d b
-      go false e m f = inl (refused 2 refl (rw (g, e)))
-      go true e false f = inl (refused 6 refl (rw (g, e, f)))
-      go true e true f =
-          let x : List ℕ = blockBytes current (withList (contents current b) (table (d .verb)) finished) in
-          let o : outcomeOf d b ≡ outcome 0 x = rw (g, e, f) in
-          let m : Made d b x =
-          kept-made x (change-kept current small-current b g (table (d .verb)) (changeOf (d .verb)) (d .base) (d .size) (verb-keeps (d .verb) e) f) in
-          inr (record { number = ap (λ (y : Outcome). eqb (y .number) 0) o; block = rw (ap (λ (y : Outcome). y .block) o) m })
+      go : Refuses current d b ⊎ Stores current d b → Refused d b ⊎ Done d b
+      go (inl r) = inl (refused (r .number) (r .some) (r .is))
+      go (inr o) =
+          let m : Made d b (blockBytes current (withList (contents current b) (table (d .verb)) (finished current d b))) =
+          kept-made _ (change-kept current small-current b g (table (d .verb)) (changeOf (d .verb)) (d .base) (d .size) (verb-keeps (d .verb) (o .legal)) (o .room)) in
+          inr (record { number = ap (λ (y : Outcome). eqb (y .number) 0) (o .is); block = rw (ap (λ (y : Outcome). y .block) (o .is)) m })

@@ -84,7 +84,7 @@ pub extern "C" fn memblock_reserve(block: &mut [u8], base: u64, size: u64) -> u3
     on_range(block, Verb::Reserve, Address(base), Size(size))
 }
 
-// Takes addresses out of it.
+// Takes addresses out of it, if every one is in it.
 #[no_mangle]
 pub extern "C" fn memblock_free(block: &mut [u8], base: u64, size: u64) -> u32
     ensures { λ r. ⌜ answer r (now (block .exit)) [] ≡ answerOf (toCommand (command Free base size)) (now (block .entry)) ⌝ }

@@ -12,7 +12,7 @@ use borrow.Author.Tests.{leb-true, eqb-true}
 use Rattle.address.specs.declared.Address.{Address}
 use Rattle.address.specs.declared.Size.{Size}
 use Rattle.address.specs.Numbers.{powerOfTwo}
-use Rattle.address.proofs.Tests.{both, zero-not-one}
+use Rattle.address.proofs.Tests.{both}
 use Rattle.address.proofs.Powers.{power-some}
 use Rattle.regions.specs.declared.Kind.{Kind}
 use Rattle.regions.specs.declared.Kind.the-variants.{Memory, Taken}
@@ -21,7 +21,7 @@ use Rattle.regions.specs.declared.Change.{Change}
 use Rattle.regions.specs.declared.Change.the-variants.{Fill, Clear, Mark, Unmark}
 use Rattle.regions.specs.Meaning.{at, shortest, top, top-is}
 use Rattle.regions.specs.Lists.{legal, legalTag, goodList}
-use Rattle.regions.specs.Changes.{change, after, cut, changed}
+use Rattle.regions.specs.Changes.{change, after, cut, changed, allowed}
 use Rattle.regions.specs.Bytes.{readRegions, tableBytes}
 use Rattle.regions.specs.Steps.{FlagBounded}
 use Rattle.regions.proofs.Records.{read-regions-length}
@@ -34,7 +34,7 @@ use Rattle.records.specs.declared.table.Tally.{Tally}
 use Rattle.lists.specs.declared.Edit.{Edit}
 use Rattle.block.specs.declared.Layout.{Layout}
 use Rattle.change.specs.declared.inplace.Changed.{Changed}
-use Rattle.change.specs.declared.inplace.Changed.the-variants.{To, NoRoom}
+use Rattle.change.specs.declared.inplace.Changed.the-variants.{To, NoRoom, Missing}
 use Rattle.regions.proofs.Numbers.{Bytes}
 use Rattle.block.proofs.Reading.{good-header}
 use Rattle.block.proofs.Layouts.{small-current}
@@ -44,10 +44,10 @@ use Rattle.records.specs.Totals.{tally}
 use Rattle.block.specs.Checks.{tallyOf, withTally}
 use Rattle.records.specs.Steps.{Table, Whole}
 use Rattle.trim.specs.Steps.{Trimmed}
-use Rattle.change.specs.Steps.{AllTagged, Uniform, Vacant, Changeable, Stored, storedAnswer, storedBytes}
+use Rattle.change.specs.Steps.{AllTagged, OneTagged, Uniform, Vacant, Changeable, Stored, StoredIf, storedAnswer, storedBytes}
 use Rattle.range.specs.Steps.{Known, storeChanged}
 use Rattle.lists.specs.Steps.{Editable}
-use Rattle.range.specs.Outcomes.{Outcome, outcome, store, tag, changeRange}
+use Rattle.range.specs.Outcomes.{Outcome, outcome, unless, store, tag, changeRange}
 use Rattle.block.proofs.Blocks.{room, lists-ok, good-contents, part-zeros}
 use Rattle.range.proofs.Storing.{capacity-bound, scratch-room, span-part, span-room, block-stored}
 
@@ -133,6 +133,12 @@ module _ (b : List ℕ) (g : good current b ≡ true) (k : Kind) (a e : ℕ) (ea
           let l : legal Taken (listOf (contents current b) k) ≡ true = rw f (good-legal k (listOf (contents current b) k) isGood) in
           inr (rw list-is (known-uniform (d .change) (listOf (contents current b) k) q l))
 
+  -- a strict change is one of the taken table, whose records have one tag
+  pub range-tagged : (strict : Bool) → (strict ≡ true → k ≡ Taken) → strict ≡ true → OneTagged (readRegions (t .count) (take (e - a) (drop a b)))
+  range-tagged strict f s =
+      let l : legal Taken (listOf (contents current b) k) ≡ true = rw (← f s) (good-legal k (listOf (contents current b) k) isGood) in
+      rw list-is (record { tag = tag 0 0; all = taken-tagged (listOf (contents current b) k) l })
+
   -- a range of which it has no address
   pub range-vacant : (base hi : Address) (size : ℕ) → hi .0 ≡ cut (base .0) size → base .0 + size ≤ top → Vacant (base .0) (base .0 + size) (listOf (contents current b) k)
       → Vacant (base .0) (hi .0) (readRegions (t .count) (take (e - a) (drop a b)))
@@ -140,8 +146,10 @@ module _ (b : List ℕ) (g : good current b ≡ true) (k : Kind) (a e : ℕ) (ea
 
   module _ (c : Change) (base : Address) (size : ℕ) (hi : Address) (eq : hi .0 ≡ cut (base .0) size) where
     -- the finished list
-    finished : shortest (after (change c) (base .0) (hi .0) (at (readRegions (t .count) (take (e - a) (drop a b))))) top
-        ≡ changed c (base .0) size (listOf (contents current b) k)
+    abbrev new : List Region
+    new = changed c (base .0) size (listOf (contents current b) k)
+
+    finished : shortest (after (change c) (base .0) (hi .0) (at (readRegions (t .count) (take (e - a) (drop a b))))) top ≡ new
     unfolding changed
     finished = rw (list-is, eq)
 
@@ -149,55 +157,60 @@ module _ (b : List ℕ) (g : good current b ≡ true) (k : Kind) (a e : ℕ) (ea
       room-is : length (take (e - a) (drop a b)) / 24 ≡ capacity current k
       room-is = omega (arith, span-room k a e b g ea ee)
 
-      answered : p ≡ storedAnswer (capacity current k) (changed c (base .0) size (listOf (contents current b) k))
-      answered = rw (room-is, finished) at (w .answer)
-
-      left : x ≡ storedBytes (capacity current k) (changed c (base .0) size (listOf (contents current b) k)) (take (e - a) (drop a b))
+      left : x ≡ storedBytes (capacity current k) new (take (e - a) (drop a b))
       left = rw (room-is, finished) at (w .after)
 
-      no-room : p ≡ NoRoom → leb (length (changed c (base .0) size (listOf (contents current b) k))) (capacity current k) ≡ false
-      unfolding storedAnswer
-      no-room f = go (leb (length (changed c (base .0) size (listOf (contents current b) k))) (capacity current k)) answered
-        where
-          go : (t : Bool) → p ≡ cond t (To (tally (changed c (base .0) size (listOf (contents current b) k)))) NoRoom → t ≡ false
-          go true q = absurd (zero-not-one cc)
-          go false q = refl
+      abbrev fit : Bool
+      fit = leb (length new) (capacity current k)
 
-      range-full : p ≡ NoRoom → outcome 6 (take a b ++ (x ++ drop (e - a) (drop a b))) ≡ changeRange current k c (base .0) size b
+      -- the list has room, and the answer is its tally, or it has none
+      answered : ((fit ≡ true) × (p ≡ To (tally new))) ⊎ ((fit ≡ false) × (p ≡ NoRoom))
+      unfolding storedAnswer
+      answered = go fit refl (rw (room-is, finished) at (w .answer))
+        where
+          go : (t : Bool) → fit ≡ t → p ≡ cond t (To (tally new)) NoRoom → ((fit ≡ true) × (p ≡ To (tally new))) ⊎ ((fit ≡ false) × (p ≡ NoRoom))
+          go true f q = inl (f, q)
+          go false f q = inr (f, q)
+
+      range-full : fit ≡ false → outcome 6 (take a b ++ (x ++ drop (e - a) (drop a b))) ≡ changeRange current k c (base .0) size b
       unfolding store storedBytes
-      range-full f =
-          let n = no-room f in
+      range-full n =
           let y : x ≡ take (e - a) (drop a b) = left ∙ rw n in
           rw (n, y, take-append-drop, take-append-drop)
 
-      module _ (y : Tally) (f : p ≡ To y) where
-        answered-to : (leb (length (changed c (base .0) size (listOf (contents current b) k))) (capacity current k) ≡ true) × (y ≡ tally (changed c (base .0) size (listOf (contents current b) k)))
-        unfolding storedAnswer
-        answered-to = go (leb (length (changed c (base .0) size (listOf (contents current b) k))) (capacity current k)) answered
-          where
-            go : (t : Bool) → p ≡ cond t (To (tally (changed c (base .0) size (listOf (contents current b) k)))) NoRoom
-                → (t ≡ true) × (y ≡ tally (changed c (base .0) size (listOf (contents current b) k)))
-            go true q = (refl, cc)
-            go false q = absurd (zero-not-one cc)
-
-        range-done : Bytes b → outcome 0 (sets (take a b ++ (x ++ drop (e - a) (drop a b))) 0 (headerBytes current (withTally h k y))) ≡ changeRange current k c (base .0) size b
-        unfolding store storedBytes
-        range-done bs =
-            let v = answered-to in
-            let m = leb-true (length (changed c (base .0) size (listOf (contents current b) k))) (capacity current k) (v .0) in
-            let u : x ≡ tableBytes (length (take (e - a) (drop a b)) / 24) (changed c (base .0) size (listOf (contents current b) k)) = left ∙ rw (v .0, room-is) in
-            let r = block-stored b bs g k a e ea ee (changed c (base .0) size (listOf (contents current b) k)) x u (y .count) (ap (λ (q : Tally). q .count) (v .1)) (omega (arith, ap (λ (q : Tally). q .count) (v .1))) h eh
-            (y .total) (ap (λ (q : Tally). q .total .0) (v .1)) current refl (withTally h k y) refl _ refl in
-            rw (v .0, r)
+      range-done : Bytes b → fit ≡ true
+          → outcome 0 (sets (take a b ++ (x ++ drop (e - a) (drop a b))) 0 (headerBytes current (withTally h k (tally new)))) ≡ changeRange current k c (base .0) size b
+      unfolding store storedBytes
+      range-done bs n =
+          let y : Tally = tally new in
+          let m = leb-true (length new) (capacity current k) n in
+          let u : x ≡ tableBytes (length (take (e - a) (drop a b)) / 24) new = left ∙ rw (n, room-is) in
+          let r = block-stored b bs g k a e ea ee new x u (y .count) refl m h eh (y .total) refl current refl (withTally h k y) refl _ refl in
+          rw (n, r)
 
       -- the changed table's answer, stored, is the outcome
       pub range-stored : Bytes b → (o : Outcome) → o ≡ storeChanged h k p (take a b ++ (x ++ drop (e - a) (drop a b))) → o ≡ changeRange current k c (base .0) size b
       unfolding storeChanged
-      range-stored bs o q = go p refl q
+      range-stored bs o q = go answered
         where
-          go : (r : Changed) → p ≡ r → o ≡ storeChanged h k r (take a b ++ (x ++ drop (e - a) (drop a b))) → o ≡ changeRange current k c (base .0) size b
-          go NoRoom f n = n ∙ range-full f
-          go (To y) f n = n ∙ range-done y f bs
+          go : ((fit ≡ true) × (p ≡ To (tally new))) ⊎ ((fit ≡ false) × (p ≡ NoRoom)) → o ≡ changeRange current k c (base .0) size b
+          go (inl v) = q ∙ rw (v .1) (range-done bs (v .0))
+          go (inr v) = q ∙ rw (v .1) (range-full (v .0))
+
+    -- and if it is allowed
+    module _ (strict : Bool) (x : List ℕ) (p : Changed)
+        (w : StoredIf (allowed strict (base .0) (hi .0) (readRegions (t .count) (take (e - a) (drop a b)))) (take (e - a) (drop a b)) x (shortest (after (change c) (base .0) (hi .0) (at (readRegions (t .count) (take (e - a) (drop a b))))) top) p) where
+      pub range-stored-if : Bytes b → (o : Outcome) → o ≡ storeChanged h k p (take a b ++ (x ++ drop (e - a) (drop a b)))
+          → o ≡ unless (allowed strict (base .0) (cut (base .0) size) (listOf (contents current b) k)) 12 b (changeRange current k c (base .0) size b)
+      unfolding storeChanged
+      range-stored-if bs o q = go (allowed strict (base .0) (cut (base .0) size) (listOf (contents current b) k)) refl
+        where
+          same : allowed strict (base .0) (hi .0) (readRegions (t .count) (take (e - a) (drop a b))) ≡ allowed strict (base .0) (cut (base .0) size) (listOf (contents current b) k)
+          same = rw (list-is, eq)
+
+          go : (ok : Bool) → allowed strict (base .0) (cut (base .0) size) (listOf (contents current b) k) ≡ ok → o ≡ unless ok 12 b (changeRange current k c (base .0) size b)
+          go true f = range-stored x p (w .yes (same ∙ f)) bs o q
+          go false f = let v = w .no (same ∙ f) in q ∙ rw (v .0, v .1, take-append-drop, take-append-drop)
 
 -- ---- trim
 
@@ -229,6 +242,10 @@ module _ (b : List ℕ) (g : good current b ≡ true) (a e : ℕ) (ea : a ≡ of
 -- ---- a changed table's answer, as the code gives it
 
 module _ (own : Header) (k : Kind) (p : Changed) (b : List ℕ) where
+  pub stored-missing : p ≡ Missing → outcome 12 b ≡ storeChanged own k p b
+  unfolding storeChanged
+  stored-missing f = rw f
+
   pub stored-full : p ≡ NoRoom → outcome 6 b ≡ storeChanged own k p b
   unfolding storeChanged
   stored-full f = rw f

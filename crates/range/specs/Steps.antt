@@ -12,7 +12,7 @@ use Rattle.block.specs.declared.Header.{Header}
 use Rattle.block.specs.Block.{current, headerBytes}
 use Rattle.block.specs.Checks.{withTally}
 use Rattle.change.specs.declared.inplace.Changed.{Changed}
-use Rattle.change.specs.declared.inplace.Changed.the-variants.{To, NoRoom}
+use Rattle.change.specs.declared.inplace.Changed.the-variants.{To, NoRoom, Missing}
 use Rattle.range.specs.Outcomes.{Outcome, outcome, tag}
 
 -- a change that the rules of a table know: in memory any, in the taken table only of its one tag, 0, 0
@@ -23,7 +23,8 @@ Known Taken Clear = Unit {0}
 Known Taken (Mark w) = ⊥
 Known Taken (Unmark w) = ⊥
 
--- the number of each answer of a changed table, and the block's bytes then: the new tally in its header, or 6
+-- the number of each answer of a changed table, and the block's bytes then: the new tally in its header, or 6, or 12
 unfoldable pub storeChanged : Header → Kind → Changed → List ℕ → Outcome
 storeChanged h k (To t) b = outcome 0 (sets b 0 (headerBytes current (withTally h k t)))
 storeChanged h k NoRoom b = outcome 6 b
+storeChanged h k Missing b = outcome 12 b

@@ -18,16 +18,16 @@ ghost use mathlib.Core.Path.{_≡_};
 ghost use mathlib.Core.Bool.{true};
 ghost use Prim.Native.Nat.{_+_, _*_, _<_, _≤_};
 ghost use lib.ListN.{length};
-ghost use Rattle.regions.specs.declared.Kind.the-variants.{Memory};
+ghost use Rattle.regions.specs.declared.Kind.the-variants.{Memory, Taken};
 ghost use Rattle.regions.specs.declared.Change.the-variants.{Fill};
 ghost use Rattle.regions.specs.Meaning.{top};
 ghost use Rattle.address.specs.Numbers.{powerOfTwo};
 ghost use Rattle.regions.specs.Trim.{trimmedList};
-ghost use Rattle.regions.specs.Changes.{cut};
+ghost use Rattle.regions.specs.Changes.{cut, allowed};
 ghost use Rattle.change.specs.Steps.{Vacant};
 ghost use Rattle.range.specs.Steps.{Known, storeChanged};
 ghost use Rattle.block.specs.Block.{current, offset, capacity, listOf, withList, blockBytes, contents, good};
-ghost use Rattle.range.specs.Outcomes.{outcome, changeRange};
+ghost use Rattle.range.specs.Outcomes.{outcome, unless, changeRange};
 
 // Where the records of a table stand in a block.
 pub struct Span {
@@ -56,22 +56,32 @@ pub fn cut_end(base: Address, size: Size) -> Address
     end
 }
 
-// Writes a changed table's tally into the header, or answers 6.
+// Writes a changed table's tally into the header, or answers 6 or 12.
 fn store_changed(block: &mut [u8], own: Header, kind: Kind, changed: Changed) -> u32
     requires { ⌜ 80 ≤ length (now block) ⌝ }
     ensures { λ r. ⌜ outcome r (now (block .exit)) ≡ storeChanged own kind changed (now (block .entry)) ⌝ }
 {
-    let Changed::To(tally) = changed else {
-        return 6;
-    };
-    put_header(block, current_layout(), own.with_tally(kind, tally));
-    0
+    match changed {
+        Changed::To(tally) => {
+            put_header(block, current_layout(), own.with_tally(kind, tally));
+            0
+        }
+        Changed::NoRoom => 6,
+        Changed::Missing => 12,
+    }
 }
 
-// Changes a range of a table, or answers 6.
-pub fn change_range(block: &mut [u8], kind: Kind, change: Change, base: Address, size: Size) -> u32
-    requires { ⌜ (good current (now block) ≡ true) × Known kind change ⌝ }
-    ensures { λ r. ⌜ outcome r (now (block .exit)) ≡ changeRange current kind change (base .0) (size .0) (now (block .entry)) ⌝ }
+// Changes a range of a table, or answers 6; if it is strict, 12 where the table has not every address of the range.
+pub fn change_range(
+    block: &mut [u8],
+    kind: Kind,
+    change: Change,
+    strict: bool,
+    base: Address,
+    size: Size,
+) -> u32
+    requires { ⌜ (good current (now block) ≡ true) × (Known kind change × (strict ≡ true → kind ≡ Taken)) ⌝ }
+    ensures { λ r. ⌜ outcome r (now (block .exit)) ≡ unless (allowed strict (base .0) (cut (base .0) (size .0)) (listOf (contents current (now (block .entry))) kind)) 12 (now (block .entry)) (changeRange current kind change (base .0) (size .0) (now (block .entry))) ⌝ }
 {
     let span = table_span(kind);
     let start = span.start;
@@ -83,7 +93,7 @@ pub fn change_range(block: &mut [u8], kind: Kind, change: Change, base: Address,
         lo: base,
         hi: cut_end(base, size),
     };
-    let changed = change_table(&mut block[start..end], tally, edit);
+    let changed = change_table(&mut block[start..end], tally, strict, edit);
     store_changed(block, own, kind, changed)
 }
 

@@ -19,3 +19,5 @@ pub mod Few
 pub mod Fewest
 pub mod Middle
 pub mod Gap
+pub mod AllPresent
+pub mod Clearing

@@ -1,6 +1,6 @@
 -- The commands on a table, at one address and over a range. Assumes nothing.
-use Prim.Native.Nat.{ℕ, _+_, _-_, _/_, _%_, min}
-use mathlib.Core.Bool.{Bool, cond, _||_}
+use Prim.Native.Nat.{ℕ, zero, suc, _+_, _-_, _/_, _%_, min}
+use mathlib.Core.Bool.{Bool, true, false, cond, _&&_, _||_}
 use mathlib.Core.List.{List}
 use lib.Dec.{eqb}
 use Rattle.regions.specs.declared.Region.{Region}
@@ -46,3 +46,19 @@ cut base size = min (base + size) top
 -- the finished shortest list: what a command on a range makes of a table
 unfoldable pub changed : Change → ℕ → ℕ → List Region → List Region
 changed k base size xs = shortest (after (change k) base (cut base size) (at xs)) top
+
+-- ---- E10: where a change is allowed
+
+abbrev pub present : State → Bool
+present Absent = false
+present (Present t) = true
+
+-- the n addresses from a are all present
+unfoldable pub allPresent : Meaning → ℕ → ℕ → Bool
+allPresent f a zero = true
+allPresent f a (suc n) = present (f (a + n)) && allPresent f a n
+
+-- a strict change is allowed where the table has each address from lo to below hi, any other everywhere
+abbrev pub allowed : Bool → ℕ → ℕ → List Region → Bool
+allowed false lo hi xs = true
+allowed true lo hi xs = allPresent (at xs) lo (hi - lo)

@@ -5,18 +5,17 @@ use mathlib.Core.Bool.{Bool, true, false, _&&_, and-false}
 use mathlib.Core.Logic.{inl, inr}
 use native.Mathlib.Omega.{arith}
 use lib.Dec.{leb}
-use lib.ListN.{length}
 use borrow.Author.Tests.{lt-leb, leb-false, ne-eqb}
 use Rattle.address.proofs.Tests.{clash, zero-not-one}
 use Rattle.regions.specs.Lists.{legalTag}
 use Rattle.regions.specs.Changes.{oneFlag}
-use Rattle.block.specs.Block.{capacity, withList, blockBytes, contents, good}
+use Rattle.block.specs.Block.{good}
 use Rattle.tables.specs.declared.commands.Verb.{Verb}
 use Rattle.tables.specs.declared.commands.Verb.the-variants.{Add, Remove, Mark, Unmark, Reserve, Free}
-use Rattle.range.specs.Outcomes.{unless, doneWith, store}
-use Rattle.tables.specs.Commands.{table, legalVerb, commandOutcome}
+use Rattle.range.specs.Outcomes.{outcome}
+use Rattle.tables.specs.Commands.{legalVerb, commandOutcome}
 use Rattle.tables.specs.BadTag.{NotOneFlag, BadTag, BadTagSentence}
-use Rattle.tables.specs.DemandTwo.{finished}
+use Rattle.tables.proofs.Answered.{Answered, notGood, notLegal, notAllowed, noRoom, done, answered, number-is}
 
 -- ---- what is not legal is bad
 
@@ -54,14 +53,18 @@ bad-is Free n = absurd n
 -- ---- the sentence
 
 pub bad-tag-sentence : BadTagSentence
-unfolding commandOutcome store
-bad-tag-sentence L c b =
-    (λ e. only (good L b) refl (legalVerb (c .verb)) refl (leb (length (finished L c b)) (capacity L (table (c .verb)))) e, λ g n. rw (g, bad-is (c .verb) n))
+bad-tag-sentence L c b = (λ e. only e (answered L c b), λ g n. given g (bad-is (c .verb) n) (answered L c b))
   where
-    only : (g : Bool) → good L b ≡ g → (l : Bool) → legalVerb (c .verb) ≡ l → (m : Bool)
-        → unless g 1 b (unless l 2 b (unless m 6 b (doneWith (blockBytes L (withList (contents L b) (table (c .verb)) (finished L c b)))))) .number ≡ 2
-        → (good L b ≡ true) × BadTag (c .verb)
-    only true g false l m e = (g, not-legal (c .verb) l)
-    only true g true l true e = absurd (omega (arith, e))
-    only true g true l false e = absurd (omega (arith, e))
-    only false g l h m e = absurd (omega (arith, e))
+    only : commandOutcome L c b .number ≡ 2 → Answered L c b → (good L b ≡ true) × BadTag (c .verb)
+    only h (notGood g e) = absurd (omega (arith, number-is e h))
+    only h (notLegal g l e) = (g, not-legal (c .verb) l)
+    only h (notAllowed g l a e) = absurd (omega (arith, number-is e h))
+    only h (noRoom g l a m e) = absurd (omega (arith, number-is e h))
+    only h (done g l a m e) = absurd (omega (arith, number-is e h))
+
+    given : good L b ≡ true → legalVerb (c .verb) ≡ false → Answered L c b → commandOutcome L c b ≡ outcome 2 b
+    given h n (notGood g e) = absurd (clash (good L b) h g)
+    given h n (notLegal g l e) = e
+    given h n (notAllowed g l a e) = absurd (clash (legalVerb (c .verb)) l n)
+    given h n (noRoom g l a m e) = absurd (clash (legalVerb (c .verb)) l n)
+    given h n (done g l a m e) = absurd (clash (legalVerb (c .verb)) l n)

@@ -8,19 +8,21 @@ use Rattle.address.specs.Numbers.{powerOfTwo}
 use Rattle.regions.specs.declared.Kind.{Kind}
 use Rattle.regions.specs.declared.Kind.the-variants.{Memory}
 use Rattle.regions.specs.declared.Change.{Change}
+use Rattle.regions.specs.Changes.{cut, allowed}
 use Rattle.regions.specs.Trim.{trimmedList}
 use Rattle.block.specs.declared.Layout.{Layout}
-use Rattle.block.specs.Block.{current, withList, blockBytes, contents, good}
+use Rattle.block.specs.Block.{current, listOf, withList, blockBytes, contents, good}
 use Rattle.tables.specs.declared.commands.Verb.{Verb}
-use Rattle.range.specs.Outcomes.{Outcome, outcome, changeRange}
-use Rattle.tables.specs.Commands.{command, table, changeOf, legalVerb, commandOutcome, trim}
+use Rattle.range.specs.Outcomes.{Outcome, outcome, unless, changeRange}
+use Rattle.tables.specs.Commands.{command, table, changeOf, legalVerb, strict, commandOutcome, trim}
 use Rattle.block.proofs.Blocks.{bad-here, good-here}
 
--- past its checks, a command is the change
+-- past its first checks, a command is the change, where it is allowed
 pub command-changes : (b : List ℕ) (v : Verb) (base size : ℕ) → good current b ≡ true → legalVerb v ≡ true → (k : Kind) → k ≡ table v → (c : Change) → c ≡ changeOf v
-    → (o : Outcome) → o ≡ changeRange current k c base size b → o ≡ commandOutcome current (command v base size) b
+    → (s : Bool) → s ≡ strict v → (o : Outcome)
+    → o ≡ unless (allowed s base (cut base size) (listOf (contents current b) k)) 12 b (changeRange current k c base size b) → o ≡ commandOutcome current (command v base size) b
 unfolding commandOutcome
-command-changes b v base size g h k p c q o e = rw (g, h, ← p, ← q) e
+command-changes b v base size g h k p c q s r o e = rw (g, h, ← p, ← q, ← r) e
 
 module _ (l : Layout) (is : l ≡ current) (b : List ℕ) (g : Bool) (q : g ≡ good l b) (v : Verb) (base size : ℕ) where
   pub command-bad : not g ≡ true → outcome 1 b ≡ commandOutcome current (command v base size) b

@@ -1,6 +1,6 @@
 -- Every command leaves a good block: those on a range, trim, set and that for the image end one that was good, fresh any bytes of the right length. Assumes nothing.
 use Prim.Native.Nat.{ℕ, _%_, _^_, _<_}
-use mathlib.Core.Path.{_≡_, refl}
+use mathlib.Core.Path.{_≡_, refl, ap, _∙_}
 use mathlib.Core.Bool.{Bool, true, false, cond}
 use mathlib.Core.List.{List}
 use mathlib.Core.Logic.{_⊎_, inl, inr}
@@ -11,19 +11,19 @@ use lib.ListN.{length}
 use borrow.Author.Tests.{le-leb}
 use Rattle.address.specs.Numbers.{powerOfTwo}
 use Rattle.address.proofs.Powers.{power-some}
-use Rattle.address.proofs.Tests.{and}
+use Rattle.address.proofs.Tests.{and, clash}
 use Rattle.regions.specs.declared.Kind.the-variants.{Memory, Taken}
 use Rattle.regions.proofs.Numbers.{bytes-mod}
 use Rattle.block.specs.declared.Layout.{Layout}
 use Rattle.block.specs.declared.Settings.{Settings}
-use Rattle.block.specs.Block.{current, capacity, blockLength, Contents, withSettings, settings, settingsBytes, totalsBytes, freshContents, headerBytes, blockBytes, contents, goodContents, good}
+use Rattle.block.specs.Block.{current, blockLength, Contents, listOf, withSettings, settings, settingsBytes, totalsBytes, freshContents, headerBytes, blockBytes, contents, goodContents, good}
 use Rattle.block.proofs.Blocks.{direction-ok, tables-ok, good-contents}
 use Rattle.block.proofs.Reading.{SettingsFit, Spellable, good-spelled-block}
 use Rattle.block.proofs.Layouts.{small-current}
 use Rattle.block.proofs.Kept.{change-kept, trim-kept}
-use Rattle.range.specs.Outcomes.{Outcome, outcome, unless, doneWith, store}
-use Rattle.tables.specs.Commands.{Command, table, changeOf, legalVerb, commandOutcome, fresh, set, setImageEnd, trim}
-use Rattle.tables.specs.DemandTwo.{finished}
+use Rattle.range.specs.Outcomes.{Outcome, outcome, unless, doneWith}
+use Rattle.tables.specs.Commands.{Command, table, changeOf, legalVerb, strict, allows, commandOutcome, fresh, set, setImageEnd, trim}
+use Rattle.tables.proofs.Answered.{Answered, notGood, notLegal, notAllowed, noRoom, done, answered, Refuses, Stores, refuses-or-stores}
 use Rattle.tables.proofs.Verbs.{verb-keeps}
 use Rattle.tables.proofs.Printed.{fresh-spellable}
 
@@ -37,25 +37,27 @@ was-good false b o h = absurd (omega (arith, h))
 module _ (b : List ℕ) (g : good current b ≡ true) where
   module _ (c : Command) where
     pub command-good : good current (commandOutcome current c b .block) ≡ true
-    unfolding commandOutcome store
-    command-good = go (legalVerb (c .verb)) refl (leb (length (finished current c b)) (capacity current (table (c .verb)))) refl
+    command-good = go (refuses-or-stores current c b)
       where
-        go : (l : Bool) → legalVerb (c .verb) ≡ l → (m : Bool) → leb (length (finished current c b)) (capacity current (table (c .verb))) ≡ m
-            → good current (commandOutcome current c b .block) ≡ true
-        go false e m f = rw (g, e) g
-        go true e false f = rw (g, e, f) g
-        go true e true f =
-            rw (g, e, f) (change-kept current small-current b g (table (c .verb)) (changeOf (c .verb)) (c .base) (c .size) (verb-keeps (c .verb) e) f .isGood)
+        go : Refuses current c b ⊎ Stores current c b → good current (commandOutcome current c b .block) ≡ true
+        go (inl r) = ap (λ (o : Outcome). good current (o .block)) (r .is) ∙ g
+        go (inr d) =
+            ap (λ (o : Outcome). good current (o .block)) (d .is)
+            ∙ change-kept current small-current b g (table (c .verb)) (changeOf (c .verb)) (c .base) (c .size) (verb-keeps (c .verb) (d .legal)) (d .room) .isGood
 
-    -- with a legal tag it is done or the table is full
-    pub command-number : legalVerb (c .verb) ≡ true → (commandOutcome current c b .number ≡ 0) ⊎ (commandOutcome current c b .number ≡ 6)
-    unfolding commandOutcome store
-    command-number e = go (leb (length (finished current c b)) (capacity current (table (c .verb)))) refl
+    -- with a legal tag it is done or the table is full, but for free
+    pub command-number : legalVerb (c .verb) ≡ true → strict (c .verb) ≡ false → (commandOutcome current c b .number ≡ 0) ⊎ (commandOutcome current c b .number ≡ 6)
+    command-number h s = go (answered current c b)
       where
-        go : (m : Bool) → leb (length (finished current c b)) (capacity current (table (c .verb))) ≡ m
-            → (commandOutcome current c b .number ≡ 0) ⊎ (commandOutcome current c b .number ≡ 6)
-        go true f = inl (rw (g, e, f))
-        go false f = inr (rw (g, e, f))
+        lax : allows c (listOf (contents current b) (table (c .verb))) ≡ true
+        lax = rw s
+
+        go : Answered current c b → (commandOutcome current c b .number ≡ 0) ⊎ (commandOutcome current c b .number ≡ 6)
+        go (notGood f e) = absurd (clash (good current b) g f)
+        go (notLegal f l e) = absurd (clash (legalVerb (c .verb)) h l)
+        go (notAllowed f l a e) = absurd (clash _ lax a)
+        go (noRoom f l a m e) = inr (ap (λ (o : Outcome). o .number) e)
+        go (done f l a m e) = inl (ap (λ (o : Outcome). o .number) e)
 
   pub trim-good : (k : ℕ) → good current (trim current k b .block) ≡ true
   unfolding trim

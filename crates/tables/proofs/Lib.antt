@@ -1,6 +1,8 @@
 pub mod BadTag
 pub mod Commanding
 pub mod DemandTwo
+pub mod Answered
+pub mod NotTaken
 pub mod Front
 pub mod Good
 pub mod ImageEnd

@@ -1,8 +1,9 @@
 -- Where each address of its range already stands as a command says, the command is done and every byte stays. Assumes nothing.
-use Prim.Native.Nat.{ℕ}
-use mathlib.Core.Path.{_≡_, refl, sym, ap, _∙_}
+use Prim.Native.Nat.{ℕ, _≤_}
+use mathlib.Core.Path.{_≡_, refl, ap, _∙_}
 use mathlib.Core.Bool.{Bool, true, false, cond}
 use mathlib.Core.List.{List}
+use mathlib.Core.Logic.{inl, inr}
 use native.Mathlib.Omega.{arith}
 use lib.Dec.{leb}
 use lib.ListN.{length}
@@ -11,20 +12,19 @@ use Rattle.address.proofs.Tests.{both}
 use Rattle.regions.specs.declared.Kind.{Kind}
 use Rattle.regions.specs.declared.Kind.the-variants.{Memory, Taken}
 use Rattle.regions.specs.declared.Region.{Region}
-use Rattle.regions.specs.declared.State.the-variants.{Absent}
 use Rattle.regions.specs.declared.Change.{Change}
-use Rattle.regions.specs.declared.Change.the-variants.{Clear}
 use Rattle.regions.specs.Meaning.{inside, at, top}
 use Rattle.regions.specs.Lists.{goodList}
 use Rattle.regions.specs.Changes.{change, after, cut, changed}
 use Rattle.regions.proofs.Count.{agree}
 use Rattle.regions.proofs.RoundTrip.{inside-hi, round-trip}
 use Rattle.regions.proofs.Good.{good-rises}
+use Rattle.regions.proofs.AllPresent.{empty-allowed}
 use Rattle.block.specs.declared.Layout.{Layout}
 use Rattle.block.specs.Block.{capacity, Contents, listOf, withList, contents, good}
-use Rattle.tables.specs.declared.commands.Verb.the-variants.{Free}
 use Rattle.range.specs.Outcomes.{doneWith, store, changeRange}
-use Rattle.tables.specs.Commands.{command, commandOutcome}
+use Rattle.tables.specs.Commands.{Command, table, changeOf, strict, commandOutcome}
+use Rattle.tables.specs.SizeZero.{NoRange, SizeZeroSentence}
 use Rattle.block.proofs.Blocks.{room, lists-ok, good-contents, good-spelled}
 
 -- each address from base to the cut end of the range stands as the change leaves it
@@ -58,15 +58,19 @@ module _ (L : Layout) (b : List ℕ) (g : good L b ≡ true) where
       )
       (ap doneWith (good-spelled L b g))
 
-  -- a size of 0 changes nothing
-  pub size-zero : (k : Kind) (c : Change) (base : ℕ) → changeRange L k c base 0 b ≡ doneWith b
-  size-zero k c base = unchanged k c base 0 (λ a e. absurd (none a e))
-    where
-      none : (a : ℕ) → inside base (cut base 0) a ≡ true → ⊥
-      none a e =
-          omega (arith, inside-hi base (cut base 0) a e, leb-true base a (both (leb base a) _ e .0))
+-- ---- a size of 0, and a range of which the cut leaves nothing
 
-  -- freeing what is not taken changes nothing
-  pub free-untaken : (base size : ℕ) → ((a : ℕ) → inside base (cut base size) a ≡ true → at (contents L b .taken) a ≡ Absent) → commandOutcome L (command Free base size) b ≡ doneWith b
-  unfolding commandOutcome change
-  free-untaken base size h = rw g (unchanged Taken Clear base size (λ a e. sym (h a e)))
+no-range : (c : Command) → NoRange c → cut (c .base) (c .size) ≤ c .base
+no-range c (inl e) = omega (arith, e)
+no-range c (inr h) = omega (arith, h)
+
+pub size-zero-sentence : SizeZeroSentence
+unfolding commandOutcome
+size-zero-sentence L c b g l n =
+    let a = empty-allowed (strict (c .verb)) (c .base) (cut (c .base) (c .size)) (listOf (contents L b) (table (c .verb))) (no-range c n) in
+    rw (g, l, ← a) (unchanged L b g (table (c .verb)) (changeOf (c .verb)) (c .base) (c .size) (λ x e. absurd (none x e)))
+  where
+    none : (a : ℕ) → inside (c .base) (cut (c .base) (c .size)) a ≡ true → ⊥
+    none a e =
+        let h = no-range c n in
+        omega (arith, inside-hi (c .base) (cut (c .base) (c .size)) a e, leb-true (c .base) a (both (leb (c .base) a) _ e .0))

@@ -1,7 +1,8 @@
 -- Which table each command works on, what it makes of an address, and that the table's rules know it. Assumes nothing.
 use Prim.Native.Nat.{ℕ}
-use mathlib.Core.Path.{_≡_, refl}
+use mathlib.Core.Path.{_≡_, refl, sym, _∙_}
 use mathlib.Core.Bool.{Bool, true}
+use Rattle.address.proofs.Tests.{zero-not-one}
 use Rattle.regions.specs.declared.Kind.{Kind}
 use Rattle.regions.specs.declared.Kind.the-variants.{Memory, Taken}
 use Rattle.regions.specs.declared.Tag.{Tag}
@@ -14,7 +15,7 @@ use Rattle.regions.proofs.Legal.{Keeps, fill-keeps, clear-keeps, mark-keeps, un
 use Rattle.tables.specs.declared.commands.Verb.{Verb}
 use Rattle.tables.specs.declared.commands.Verb.the-variants.{Add, Remove, Mark, Unmark, Reserve, Free}
 use Rattle.range.specs.Outcomes.{tag}
-use Rattle.tables.specs.Commands.{table, changeOf, legalVerb}
+use Rattle.tables.specs.Commands.{table, changeOf, legalVerb, strict}
 use Rattle.range.specs.Steps.{Known}
 
 -- ---- by the command
@@ -55,6 +56,18 @@ verb-known Free e = tt
 
 pub changed-known : (v : Verb) → legalVerb v ≡ true → (k : Kind) (c : Change) → k ≡ table v → c ≡ changeOf v → Known k c
 changed-known v e k c p q = rw (p, q) (verb-known v e)
+
+-- only what works on the taken table is strict
+verb-taken : (v : Verb) → strict v ≡ true → table v ≡ Taken
+verb-taken (Add t) e = absurd (zero-not-one cc)
+verb-taken Remove e = absurd (zero-not-one cc)
+verb-taken (Mark w) e = absurd (zero-not-one cc)
+verb-taken (Unmark w) e = absurd (zero-not-one cc)
+verb-taken Reserve e = refl
+verb-taken Free e = refl
+
+pub strict-taken : (v : Verb) (k : Kind) (s : Bool) → k ≡ table v → s ≡ strict v → s ≡ true → k ≡ Taken
+strict-taken v k s p q e = p ∙ verb-taken v (sym q ∙ e)
 
 -- and with a legal tag or flag it keeps the table's tags legal
 pub verb-keeps : (v : Verb) → legalVerb v ≡ true → Keeps (table v) (changeOf v)

@@ -1,23 +1,24 @@
 -- What each command on the tables answers and leaves, for all inputs: refusals in document 01's order. Assumes nothing.
 use Prim.Native.Nat.{ℕ}
-use mathlib.Core.Bool.{Bool, true}
+use mathlib.Core.Bool.{Bool, true, false}
 use mathlib.Core.List.{List}
 use lib.Dec.{leb, eqb}
 use lib.ListN.{length}
 use Rattle.address.specs.Numbers.{powerOfTwo}
 use Rattle.regions.specs.declared.Kind.{Kind}
 use Rattle.regions.specs.declared.Kind.the-variants.{Memory, Taken}
+use Rattle.regions.specs.declared.Region.{Region}
 use Rattle.regions.specs.declared.Change.{Change}
 use Rattle.regions.specs.declared.Change.the-variants as Change
 use Rattle.regions.specs.Lists.{legalTag}
-use Rattle.regions.specs.Changes.{oneFlag}
+use Rattle.regions.specs.Changes.{oneFlag, cut, allowed}
 use Rattle.regions.specs.Trim.{trimmedList}
 use Rattle.block.specs.declared.Layout.{Layout}
 use Rattle.block.specs.declared.Settings.{Settings}
 use Rattle.range.specs.Outcomes.{Outcome, doneWith, unless, changeRange, tag}
 use Rattle.tables.specs.declared.commands.Verb.{Verb}
 use Rattle.tables.specs.declared.commands.Verb.the-variants.{Add, Remove, Mark, Unmark, Reserve, Free}
-use Rattle.block.specs.Block.{blockLength, withList, withSettings, settings, withImage, freshContents, blockBytes, contents, good}
+use Rattle.block.specs.Block.{blockLength, listOf, withList, withSettings, settings, withImage, freshContents, blockBytes, contents, good}
 
 unfoldable pub fresh : Layout → List ℕ → Outcome
 fresh L b = unless (eqb (length b) (blockLength L)) 1 b (doneWith (blockBytes L freshContents))
@@ -73,10 +74,25 @@ legalVerb (Unmark w) = oneFlag w
 legalVerb Reserve = true
 legalVerb Free = true
 
+-- E10: whether its table must have each address of its range: free frees only what is taken
+abbrev pub strict : Verb → Bool
+strict (Add t) = false
+strict Remove = false
+strict (Mark w) = false
+strict (Unmark w) = false
+strict Reserve = false
+strict Free = true
+
+-- the range of a command after the cut at the top may be changed in a list of its table
+abbrev pub allows : Command → List Region → Bool
+allows c xs = allowed (strict (c .verb)) (c .base) (cut (c .base) (c .size)) xs
+
 unfoldable pub commandOutcome : Layout → Command → List ℕ → Outcome
 commandOutcome L c b =
     unless (good L b) 1 b
-    (unless (legalVerb (c .verb)) 2 b (changeRange L (table (c .verb)) (changeOf (c .verb)) (c .base) (c .size) b))
+    (unless (legalVerb (c .verb)) 2 b
+    (unless (allows c (listOf (contents L b) (table (c .verb)))) 12 b
+    (changeRange L (table (c .verb)) (changeOf (c .verb)) (c .base) (c .size) b)))
 
 -- ---- trim
 

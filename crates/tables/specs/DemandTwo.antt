@@ -14,7 +14,7 @@ use Rattle.tables.specs.Commands.{Command, table, changeOf, legalVerb, c
 abbrev pub finished : Layout → Command → List ℕ → List Region
 finished L c b = changed (changeOf (c .verb)) (c .base) (c .size) (listOf (contents L b) (table (c .verb)))
 
--- no check before it fails, and the finished list would not fit
+-- no check before it fails, and the finished list would not fit; that of 12 then cannot fail (E10: `never-full`)
 pub record Full (L : Layout) (c : Command) (b : List ℕ) : Type 0 where
   pub isGood : good L b ≡ true
   pub legal : legalVerb (c .verb) ≡ true

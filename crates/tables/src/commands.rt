@@ -22,7 +22,7 @@ ghost use mathlib.Core.Bool.{true};
 ghost use Rattle.address.specs.Numbers.{powerOfTwo};
 ghost use Rattle.block.specs.Block.{current, good};
 ghost use Rattle.range.specs.Outcomes.{outcome};
-ghost use Rattle.tables.specs.Commands.{fresh as freshOutcome, set as setOutcome, setImageEnd, trim as trimOutcome, table as tableOf, changeOf, legalVerb, command, commandOutcome};
+ghost use Rattle.tables.specs.Commands.{fresh as freshOutcome, set as setOutcome, setImageEnd, trim as trimOutcome, table as tableOf, changeOf, legalVerb, strict as strictOf, command, commandOutcome};
 
 // Writes a fresh block over any bytes of the right length.
 pub fn fresh(block: &mut [u8]) -> u32
@@ -141,6 +141,20 @@ impl Verb {
             Verb::Free => true,
         }
     }
+
+    // Whether its table must have every address of its range.
+    fn strict(self) -> bool
+        ensures { λ r. ⌜ r ≡ strictOf self ⌝ }
+    {
+        match self {
+            Verb::Add(_) => false,
+            Verb::Remove => false,
+            Verb::Mark(_) => false,
+            Verb::Unmark(_) => false,
+            Verb::Reserve => false,
+            Verb::Free => true,
+        }
+    }
 }
 
 // What a command answers on a good block, with a legal tag or flag: nothing is checked again.
@@ -148,7 +162,8 @@ pub fn on_good(block: &mut [u8], verb: Verb, base: Address, size: Size) -> u32
     requires { ⌜ (good current (now block) ≡ true) × (legalVerb verb ≡ true) ⌝ }
     ensures { λ r. ⌜ outcome r (now (block .exit)) ≡ commandOutcome current (command verb (base .0) (size .0)) (now (block .entry)) ⌝ }
 {
-    change_range(block, verb.table(), verb.change(), base, size)
+    let strict = verb.strict();
+    change_range(block, verb.table(), verb.change(), strict, base, size)
 }
 
 // A command on a range.

@@ -67,13 +67,14 @@ impl Command {
         }
     }
 
-    /// The numbers that document 01 and requests E1, E4, E6 and E7 allow.
+    /// The numbers that document 01 and requests E1, E4, E6, E7 and E10 allow.
     pub fn allowed(self) -> &'static [u32] {
         match self {
             Fresh | SetImageEnd | Convert => &[0, 1],
             Set => &[0, 1, 7],
             Add | Mark | Unmark => &[0, 1, 2, 6],
-            Remove | Reserve | Free => &[0, 1, 6],
+            Remove | Reserve => &[0, 1, 6],
+            Free => &[0, 1, 12, 6],
             Trim => &[0, 1, 3],
             NextFree => &[0, 8, 1, 2, 5],
             Find => &[0, 8, 1, 2, 3, 4, 5],

@@ -1,4 +1,4 @@
-//! The twelve cases of document 01 and those of requests E1 and E3 to E7, run
+//! The twelve cases of document 01 and those of requests E1, E3 to E7 and E10, run
 //! through the archive.
 
 use crate::blocks::{get_u64, read_recs};
@@ -198,7 +198,7 @@ fn query(size: u64, alignment: u64) -> Query {
 }
 
 pub fn run(desk: &mut Desk) -> u32 {
-    let cases: [fn(&mut Desk); 50] = [
+    let cases: [fn(&mut Desk); 59] = [
         printed,
         one,
         two_and_three,
@@ -249,6 +249,15 @@ pub fn run(desk: &mut Desk) -> u32 {
         image_and_allocations,
         image_and_full_table,
         image_and_next_free,
+        free_twice,
+        free_of_touching_reserves,
+        free_beside_a_record,
+        free_over_two_records,
+        free_of_an_empty_table,
+        free_without_an_address,
+        free_at_the_top,
+        free_and_full_table,
+        free_alone_asks,
     ];
     for (turn, case) in cases.iter().enumerate() {
         desk.turn = turn as u64;
@@ -933,11 +942,12 @@ fn flags_of_a_block(desk: &mut Desk) {
         let whole = c.block.clone();
         let at = MEMORY.offset + 16;
         c.block[at..at + 4].copy_from_slice(&flags.to_le_bytes());
-        c.range(Command::Free, 0, 1, u32::from(flags > 7));
+        // On a good block this is not taken.
+        c.range(Command::Free, 0, 1, if flags > 7 { 1 } else { 12 });
         c.block = whole;
         let at = TAKEN.offset + 16;
         c.block[at..at + 4].copy_from_slice(&flags.to_le_bytes());
-        c.range(Command::Free, 0, 1, u32::from(flags > 0));
+        c.range(Command::Free, 0, 1, if flags > 0 { 1 } else { 12 });
     }
 }
 
@@ -1412,4 +1422,285 @@ fn image_and_next_free(desk: &mut Desk) {
             c.next_free(0x20000, Err(5));
         }
     }
+}
+
+impl Case<'_> {
+    fn reserve(&mut self, lo: u64, hi: u64) {
+        self.range(Command::Reserve, lo, hi - lo, 0);
+    }
+
+    fn free(&mut self, lo: u64, hi: u64) {
+        self.range(Command::Free, lo, hi - lo, 0);
+    }
+
+    /// A free that must get this number and leave every byte.
+    fn not_freed(&mut self, base: u64, size: u64, number: u32) {
+        let before = self.block.clone();
+        self.range(Command::Free, base, size, number);
+        self.expect("block", self.block.clone(), before);
+    }
+
+    /// What is taken, as (from, to).
+    fn taken(&mut self, ranges: &[(u64, u64)]) {
+        let records: Vec<_> = ranges.iter().map(|&(lo, hi)| (lo, hi - lo, 0, 0)).collect();
+        self.table(&TAKEN, &records);
+    }
+}
+
+/// The second free of the same range gets 12, of a reserve and of an allocation.
+fn free_twice(desk: &mut Desk) {
+    let mut c = m(desk);
+    c.reserve(0x11000, 0x12000);
+    c.reserve(0x14000, 0x15000);
+    c.free(0x11000, 0x12000);
+    c.taken(&[(0x14000, 0x15000)]);
+    c.not_freed(0x11000, 0x1000, 12);
+    c.not_freed(0x11800, 1, 12);
+    c.not_freed(0x11000, 0x4000, 12);
+    c.reserve(0x11000, 0x12000);
+    c.free(0x11000, 0x12000);
+    c.not_freed(0x11000, 0x1000, 12);
+    c.free(0x14000, 0x15000);
+    c.not_freed(0x14000, 0x1000, 12);
+    c.taken(&[]);
+    for direction in [TOP_DOWN, BOTTOM_UP] {
+        let (first, second) = match direction {
+            TOP_DOWN => (0x1F000, 0x1E000),
+            _ => (0x10000, 0x11000),
+        };
+        let end = if direction == TOP_DOWN {
+            0x1F000
+        } else {
+            0x20000
+        };
+        c.turn(direction);
+        c.allocate(0x1000, 0x1000, to_end(first));
+        c.allocate(0x1000, 0x1000, Ok((second, end)));
+        c.free(first, first + 0x1000);
+        c.not_freed(first, 0x1000, 12);
+        c.not_freed(first.min(second), 0x2000, 12);
+        c.free(second, second + 0x1000);
+        c.taken(&[]);
+    }
+}
+
+/// Reserves that touch or overlap are freed as one, in either order.
+fn free_of_touching_reserves(desk: &mut Desk) {
+    for [one, two] in [
+        [(0x11000, 0x12000), (0x12000, 0x13000)],
+        [(0x12000, 0x13000), (0x11000, 0x12000)],
+        [(0x11000, 0x12800), (0x11800, 0x13000)],
+    ] {
+        let mut c = m(desk);
+        c.reserve(one.0, one.1);
+        c.reserve(two.0, two.1);
+        let both = c.block.clone();
+        c.not_freed(0x11000, 0x2001, 12);
+        c.not_freed(0x10FFF, 0x2001, 12);
+        c.free(0x11800, 0x12800);
+        c.taken(&[(0x11000, 0x11800), (0x12800, 0x13000)]);
+        c.block = both;
+        c.free(0x11000, 0x13000);
+        c.taken(&[]);
+    }
+}
+
+/// Every range on and beside a record of 4 addresses, with other records, over memory and
+/// over none.
+fn free_beside_a_record(desk: &mut Desk) {
+    let (first, past) = (0x11010, 0x11014);
+    for memory in [true, false] {
+        let mut c = Case::new(desk);
+        if memory {
+            c.add(0x10000, 0x10000, 0);
+        }
+        c.reserve(0x10000, 0x10800);
+        c.reserve(first, past);
+        c.reserve(0x30000, 0x30800);
+        let start = c.block.clone();
+        for from in first - 2..past + 2 {
+            for to in from + 1..=past + 2 {
+                if from < first || to > past {
+                    c.not_freed(from, to - from, 12);
+                    continue;
+                }
+                c.free(from, to);
+                let parts = [
+                    (0x10000, 0x10800),
+                    (first, from),
+                    (to, past),
+                    (0x30000, 0x30800),
+                ];
+                let left: Vec<_> = parts.into_iter().filter(|part| part.0 < part.1).collect();
+                c.taken(&left);
+                c.block = start.clone();
+            }
+        }
+    }
+}
+
+/// A gap of one address between two records, then a wide one.
+fn free_over_two_records(desk: &mut Desk) {
+    let mut c = m(desk);
+    c.reserve(0x11000, 0x12000);
+    c.reserve(0x12001, 0x13000);
+    // From the first to the last; only the middle, the second, the first, the one not taken.
+    for (base, size) in [
+        (0x11000, 0x2000),
+        (0x11FFF, 3),
+        (0x11FFF, 2),
+        (0x12000, 2),
+        (0x12000, 1),
+    ] {
+        c.not_freed(base, size, 12);
+    }
+    c.free(0x11FFF, 0x12000);
+    c.free(0x12001, 0x12002);
+    c.taken(&[(0x11000, 0x11FFF), (0x12002, 0x13000)]);
+    c.reserve(0x11FFF, 0x12002);
+    c.free(0x11000, 0x13000);
+    c.taken(&[]);
+
+    c.reserve(0x11000, 0x11001);
+    c.reserve(0x12000, 0x12001);
+    for (base, size) in [
+        (0x11000, 0x1001),
+        (0x11000, 0x1000),
+        (0x11001, 0x1000),
+        (0x10FFF, 0x1003),
+        (0, u64::MAX),
+    ] {
+        c.not_freed(base, size, 12);
+    }
+}
+
+/// Nothing is taken of a fresh block.
+fn free_of_an_empty_table(desk: &mut Desk) {
+    let mut c = Case::new(desk);
+    for base in [0, 1, 0x10000, 1 << 63, u64::MAX - 1] {
+        for size in [1, 2, 0x1000, 1 << 63, u64::MAX] {
+            c.not_freed(base, size, 12);
+        }
+    }
+}
+
+/// A size of 0 is done, and so is what the cut leaves nothing of; on a bad block it is 1.
+fn free_without_an_address(desk: &mut Desk) {
+    let empty = Case::new(desk).block;
+    let some = four_tables(desk).block;
+    let full = taken_comb(desk).block;
+    let mut c = Case::new(desk);
+    for block in [empty, some, full] {
+        for base in [0, 0x10000, 0x17FFF, 0x18000, 0x18800, 0x19000, u64::MAX] {
+            c.block = block.clone();
+            c.not_freed(base, 0, 0);
+            c.block[52] = 1;
+            c.not_freed(base, 0, 1);
+            c.not_freed(base, 1, 1);
+        }
+        for size in [1, 2, 0x1000, 1 << 63, u64::MAX] {
+            c.block = block.clone();
+            c.not_freed(u64::MAX, size, 0);
+            c.block[0] = 1;
+            c.not_freed(u64::MAX, size, 1);
+            c.not_freed(0, size, 1);
+        }
+    }
+}
+
+/// Ranges that the cut ends, taken up to there and not.
+fn free_at_the_top(desk: &mut Desk) {
+    const BASE: u64 = u64::MAX - 0x10;
+    let mut c = Case::new(desk);
+    c.reserve(BASE, u64::MAX);
+    let start = c.block.clone();
+    for size in [0x10, 0x11, 0x12, 0x1000, 1 << 63, u64::MAX - 1, u64::MAX] {
+        c.block = start.clone();
+        c.not_freed(BASE - 1, size.max(0x11), 12);
+        c.range(Command::Free, BASE, size, 0);
+        c.taken(&[]);
+        c.not_freed(BASE, size, 12);
+        // One address short of the cut, and one late.
+        c.reserve(BASE, u64::MAX - 1);
+        c.not_freed(BASE, size, 12);
+        c.not_freed(u64::MAX - 1, size, 12);
+        c.range(Command::Free, BASE, 0xF, 0);
+        c.reserve(BASE + 1, u64::MAX);
+        c.not_freed(BASE, size, 12);
+        c.range(Command::Free, u64::MAX - 1, size, 0);
+        c.taken(&[(BASE + 1, u64::MAX - 1)]);
+    }
+    // No sum goes round.
+    let mut c = Case::new(desk);
+    c.reserve(0, 0x10);
+    c.not_freed(8, u64::MAX, 12);
+    c.not_freed(u64::MAX - 1, 8, 12);
+    c.reserve(0, u64::MAX);
+    c.free(0, u64::MAX);
+    c.taken(&[]);
+}
+
+/// A full taken table of one page records, with one page between.
+fn taken_comb(desk: &mut Desk) -> Case<'_> {
+    let mut c = Case::new(desk);
+    for i in 0..TAKEN.capacity as u64 {
+        c.reserve(i * 0x2000, i * 0x2000 + 0x1000);
+    }
+    c
+}
+
+/// 6 is for the inside of a record of a full table alone, and never where 12 is.
+fn free_and_full_table(desk: &mut Desk) {
+    let most = TAKEN.capacity as u64;
+    let mut c = taken_comb(desk);
+    let full = c.block.clone();
+    for (base, size) in [(0x2400, 0x400), (0x2001, 1), (0x2001, 0xFFE)] {
+        c.not_freed(base, size, 6);
+    }
+    for (base, size, left) in [
+        (0x2000, 0x1000, most - 1),
+        (0x2000, 0xFFF, most),
+        (0x2001, 0xFFF, most),
+        (0x2000, 1, most),
+        (0x2FFF, 1, most),
+        (0, 0x1000, most - 1),
+        ((most - 1) * 0x2000, 0x1000, most - 1),
+    ] {
+        c.range(Command::Free, base, size, 0);
+        c.count(&TAKEN, left);
+        c.block = full.clone();
+    }
+    for (base, size) in [
+        (0x2001, 0x1000),
+        (0x2000, 0x1001),
+        (0x1FFF, 0x1001),
+        (0x1FFF, 2),
+        (0x2FFF, 2),
+        (0x3000, 0x1000),
+        (0x2800, 0x2000),
+        (0, 0x40_0000),
+        ((most - 1) * 0x2000, 0x1001),
+        (0x200_0000, 1),
+    ] {
+        c.not_freed(base, size, 12);
+    }
+    // With room for a record more the inside goes, once.
+    c.free(0, 0x1000);
+    c.free(0x2400, 0x2800);
+    c.count(&TAKEN, most);
+    c.not_freed(0x2400, 0x400, 12);
+    c.not_freed(0x2200, 0x100, 6);
+}
+
+/// Reserve of what is taken, and remove, mark and unmark of no memory, change nothing.
+fn free_alone_asks(desk: &mut Desk) {
+    let mut c = four_tables(desk);
+    let start = c.block.clone();
+    c.reserve(0x18000, 0x19000);
+    c.reserve(0x18400, 0x18800);
+    c.range(Command::Remove, 0x30000, 0x1000, 0);
+    c.range(Command::Remove, 0, 0x10000, 0);
+    c.mark(0x30000, 0x1000, NO_MAP, 0);
+    c.unmark(0x20000, 1, HOTPLUG, 0);
+    c.expect("block", c.block.clone(), start);
 }

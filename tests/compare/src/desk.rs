@@ -3,11 +3,12 @@
 
 use crate::blocks::{get_u32, get_u64, read_recs};
 use crate::call::{Call, Command};
+use crate::frees::Frees;
 use crate::images::Images;
 use crate::limits::Sides;
 use crate::runs::Runs;
 use crate::wishes::Wishes;
-use model::layout::{Body, EDITION_1, MEMORY, REPORT_ENTRY_LEN, TAKEN};
+use model::layout::{number, Body, EDITION_1, MEMORY, REPORT_ENTRY_LEN, TAKEN};
 use std::sync::atomic::{AtomicU64, Ordering};
 use std::sync::Mutex;
 use std::time::Duration;
@@ -15,7 +16,7 @@ use std::time::Duration;
 /// Bytes before and after every lent buffer that must stay as they are.
 const GUARD: usize = 64;
 /// The numbers that may be answered are below this.
-const NUMBERS: usize = 11;
+const NUMBERS: usize = 13;
 
 /// What is needed to find a call again.
 #[derive(Clone)]
@@ -155,6 +156,7 @@ pub struct Desk {
     pub runs: Runs,
     pub wishes: Wishes,
     pub images: Images,
+    pub frees: Frees,
     block_room: Lent,
     slip_room: Lent,
     source_room: Lent,
@@ -173,6 +175,7 @@ impl Desk {
             runs: Runs::default(),
             wishes: Wishes::default(),
             images: Images::default(),
+            frees: Frees::default(),
             block_room: Lent::new(),
             slip_room: Lent::new(),
             source_room: Lent::new(),
@@ -271,6 +274,9 @@ impl Desk {
             self.runs.note(call, &before, got, slip);
             self.wishes.note(call, &before, got);
             self.images.note(call, &before, got, slip);
+        }
+        if command == Command::Free && got != number::NOT_GOOD {
+            self.frees.note(call, &before, got);
         }
         got
     }

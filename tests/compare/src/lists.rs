@@ -3,6 +3,7 @@
 use crate::blocks::{self, get_u64, read_recs, some_fill, some_flags, Draft, Rec};
 use crate::call::{Call, Command};
 use crate::desk::Desk;
+use crate::frees;
 use crate::numbers::{slip, Near};
 use crate::rng::Rng;
 use model::layout::*;
@@ -22,13 +23,21 @@ pub struct Tally {
     pub pairs_with_refusals: u64,
     /// Of these, those in which some were refused because a table was full.
     pub pairs_with_full_tables: u64,
+    /// Of these, those in which a free was refused because not all was taken.
+    pub pairs_with_untaken: u64,
     /// Orders in which other commands were done; nothing is claimed of the pair.
     pub other_done: u64,
+    /// Of these, those in which other frees were done.
+    pub other_freed: u64,
     /// Runs that kept the condition, with marks done of this flag: hotplug, mirror,
     /// no-map.
     pub flags: [u64; 3],
     /// Runs that kept it, from a block with an image end.
     pub images: u64,
+    /// Runs that kept it, with frees done of one address or more.
+    pub freed: u64,
+    /// Runs that kept it, with such a free done and the same one refused.
+    pub twice: u64,
     /// Runs that broke it by two flags on one address and by nothing else.
     pub two_flags: u64,
 }
@@ -180,18 +189,62 @@ fn counted(calls: &[Call]) -> HashMap<Call, usize> {
     counts
 }
 
-/// Runs a list; gives the block at the end and the done and refused calls.
-fn run_list(desk: &mut Desk, start: &[u8], list: &[Call]) -> (Vec<u8>, Vec<Call>, Vec<u32>) {
-    let mut block = start.to_vec();
-    let mut done = Vec::new();
-    let mut refused = Vec::new();
+/// What became of a list: the block at the end, the done and the refused calls.
+struct Ran {
+    end: Vec<u8>,
+    done: Vec<Call>,
+    refused: Vec<(Call, u32)>,
+}
+
+impl Ran {
+    fn was_refused(&self, number: u32) -> bool {
+        self.refused.iter().any(|refused| refused.1 == number)
+    }
+
+    /// The frees that took addresses out.
+    fn freed(&self) -> impl Iterator<Item = &Call> {
+        let frees = |call: &&Call| {
+            let (lo, hi) = covers(call);
+            call.command() == Command::Free && lo < hi
+        };
+        self.done.iter().filter(frees)
+    }
+
+    /// Whether something was freed that the same call was refused for, before or after.
+    fn freed_twice(&self) -> bool {
+        let refused = |call: &Call| self.refused.contains(&(call.clone(), number::NOT_TAKEN));
+        self.freed().any(refused)
+    }
+}
+
+/// Runs a list. Which commands get 12 follows from the block before each: frees of what is
+/// not all taken, which leave it as it is.
+fn run_list(desk: &mut Desk, start: &[u8], list: &[Call]) -> Ran {
+    let mut ran = Ran {
+        end: start.to_vec(),
+        done: Vec::new(),
+        refused: Vec::new(),
+    };
     for call in list {
-        match desk.call(call, &mut block, &mut []) {
-            0 => done.push(call.clone()),
-            number => refused.push(number),
+        let before = ran.end.clone();
+        let number = desk.call(call, &mut ran.end, &mut []);
+        let untaken = match *call {
+            Call::Range {
+                command: Command::Free,
+                base,
+                size,
+            } => frees::not_taken(&before, base, size),
+            _ => false,
+        };
+        if untaken != (number == number::NOT_TAKEN) || untaken && before != ran.end {
+            desk.fail(&format!("{} answers {number}", call.text()));
+        }
+        match number {
+            0 => ran.done.push(call.clone()),
+            number => ran.refused.push((call.clone(), number)),
         }
     }
-    (block, done, refused)
+    ran
 }
 
 /// Disjoint ranges, each with one command and tag or flag, on one table.
@@ -219,8 +272,13 @@ fn regions(rng: &mut Rng, near: &Near, taken: bool, list: &mut Vec<Call>) {
         if rng.one_in(3) {
             continue;
         }
-        let (lo, hi) = (two[0], two[1]);
+        let (mut lo, mut hi) = (two[0], two[1]);
         let command = rng.pick(&commands);
+        // Mostly what can be freed: what is taken between the two, or a part of it.
+        let taken = near.taken_between(lo, hi);
+        if command == Command::Free && !taken.is_empty() && !rng.one_in(8) {
+            (lo, hi) = taken[rng.index(taken.len())];
+        }
         let tag = (some_flags(rng), rng.pick(&[0, 0, 1, 2, NODES - 1]));
         let flag = rng.pick(&FLAG_WORDS);
         for again in 0..rng.pick(&[1, 1, 1, 2, 3]) {
@@ -262,6 +320,27 @@ fn listed(command: Command, base: u64, size: u64, tag: (u32, u32), flag: u32) ->
     }
 }
 
+/// A free once more, if the call is one: the same, a part of it, or with an address more
+/// at one end.
+fn freed_again(rng: &mut Rng, call: &Call) -> Option<Call> {
+    let Call::Range {
+        command: Command::Free,
+        base,
+        size,
+    } = *call
+    else {
+        return None;
+    };
+    let (base, size) = match rng.below(6) {
+        0 if size > 1 => (base + 1, size - 1),
+        1 if size > 1 => (base, size - 1),
+        2 => (base, size.saturating_add(1)),
+        3 if base > 0 => (base - 1, size.saturating_add(1)),
+        _ => (base, size),
+    };
+    Some(listed(Command::Free, base, size, (0, 0), 0))
+}
+
 /// The same mark of another flag, if the call is one.
 fn of_another_flag(rng: &mut Rng, call: &Call) -> Option<Call> {
     let Call::Mark {
@@ -288,6 +367,11 @@ fn some_list(rng: &mut Rng, near: &Near, there: &[Command]) -> Vec<Call> {
         let call = list[rng.index(list.len())].clone();
         list.push(call);
     }
+    // What is freed, freed twice: only one of the two can be done.
+    if rng.one_in(2) {
+        let second = list.iter().find_map(|call| freed_again(rng, call));
+        list.extend(second);
+    }
     // A second flag on the addresses of a mark, outside the condition.
     if rng.one_in(6) {
         let second = list.iter().find_map(|call| of_another_flag(rng, call));
@@ -307,7 +391,7 @@ fn some_list(rng: &mut Rng, near: &Near, there: &[Command]) -> Vec<Call> {
             5 | 6 if marks.iter().all(|mark| there.contains(mark)) => {
                 listed(rng.pick(&marks), base, size, (0, 0), near.flag(rng, 100))
             }
-            // Refused only by a full table.
+            // Refused only by a full table, and a free of what is not taken.
             _ => listed(command, base, 1 + rng.below(3), (0, 6), flag),
         });
     }
@@ -342,25 +426,27 @@ pub fn run(desk: &mut Desk, until: u64) -> Tally {
         let list = some_list(rng, &near, &there);
         tally.lists += 1;
 
-        let (end, done, refused) = run_list(desk, &start, &list);
-        if !condition(&done) {
+        let ran = run_list(desk, &start, &list);
+        if !condition(&ran.done) {
             tally.outside += 1;
-            tally.two_flags += u64::from(only_two_flags(&done));
+            tally.two_flags += u64::from(only_two_flags(&ran.done));
             continue;
         }
         tally.predicted += 1;
         tally.images += u64::from(get_u64(&start, IMAGE_END_AT) != NO_IMAGE);
         for (count, word) in tally.flags.iter_mut().zip(FLAG_WORDS) {
             let of_it = |call: &Call| matches!(*call, Call::Mark { flag, .. } if flag == word);
-            *count += u64::from(done.iter().any(of_it));
+            *count += u64::from(ran.done.iter().any(of_it));
         }
-        if Some(&end) != predicted(&start, &done).as_ref() {
+        tally.freed += u64::from(ran.freed().next().is_some());
+        tally.twice += u64::from(ran.freed_twice());
+        if Some(&ran.end) != predicted(&start, &ran.done).as_ref() {
             desk.fail(&format!(
                 "the list does not end as predicted:\n{}",
                 show(&list)
             ));
         }
-        let wanted = counted(&done);
+        let wanted = counted(&ran.done);
 
         for _ in 0..3 {
             let mut other = list.clone();
@@ -368,10 +454,10 @@ pub fn run(desk: &mut Desk, until: u64) -> Tally {
             if other == list {
                 continue;
             }
-            let (other_end, other_done, _) = run_list(desk, &start, &other);
-            if condition(&other_done) {
+            let other_ran = run_list(desk, &start, &other);
+            if condition(&other_ran.done) {
                 tally.predicted += 1;
-                if Some(&other_end) != predicted(&start, &other_done).as_ref() {
+                if Some(&other_ran.end) != predicted(&start, &other_ran.done).as_ref() {
                     desk.fail(&format!(
                         "the list does not end as predicted:\n{}",
                         show(&other)
@@ -380,25 +466,24 @@ pub fn run(desk: &mut Desk, until: u64) -> Tally {
             } else {
                 tally.outside += 1;
             }
-            if counted(&other_done) != wanted {
+            if counted(&other_ran.done) != wanted {
                 tally.other_done += 1;
+                let frees = |ran: &Ran| counted(&ran.freed().cloned().collect::<Vec<_>>());
+                tally.other_freed += u64::from(frees(&ran) != frees(&other_ran));
                 continue;
             }
             tally.pairs += 1;
-            if !refused.is_empty() {
-                tally.pairs_with_refusals += 1;
-            }
-            if refused.contains(&6) {
-                tally.pairs_with_full_tables += 1;
-            }
-            if other_end != end {
+            tally.pairs_with_refusals += u64::from(!ran.refused.is_empty());
+            tally.pairs_with_full_tables += u64::from(ran.was_refused(number::TABLE_FULL));
+            tally.pairs_with_untaken += u64::from(ran.was_refused(number::NOT_TAKEN));
+            if other_ran.end != ran.end {
                 desk.fail(&format!(
                     "two orders of one list end in different blocks:\n{}\nand\n{}",
                     show(&list),
                     show(&other)
                 ));
             }
-            later_calls(desk, rng, end.clone(), other_end);
+            later_calls(desk, rng, ran.end.clone(), other_ran.end);
         }
     }
     tally

@@ -7,6 +7,7 @@ mod call;
 mod cases;
 mod desk;
 mod editions;
+mod frees;
 mod images;
 mod limits;
 mod lists;
@@ -133,7 +134,7 @@ fn main() {
             "cases" => {
                 let cases = cases::run(desk);
                 println!(
-                    "cases: all {cases} of document 01 and those of requests E1, E3 to E7, {} calls",
+                    "cases: all {cases} of document 01 and those of requests E1, E3 to E7 and E10, {} calls",
                     desk.calls
                 );
             }
@@ -162,6 +163,7 @@ fn main() {
     }
     numbers_reached(desk);
     sides_met(desk);
+    frees_met(desk);
     println!("compare: {} calls, all equal", desk.calls);
 }
 
@@ -208,10 +210,22 @@ fn sides_met(desk: &Desk) {
         ("wishes", desk.wishes.told()),
         ("images", desk.images.told()),
     ] {
-        match told {
-            Ok(counts) => println!("{what}: {counts}"),
-            Err(message) => stop(&format!("{what}: {message}")),
-        }
+        tell(what, told);
+    }
+}
+
+/// Frees on every side of what is taken were made.
+fn frees_met(desk: &Desk) {
+    let commands = [Command::Reserve, Command::Free, Command::Allocate];
+    if commands.into_iter().all(Command::is_there) {
+        tell("frees", desk.frees.told());
+    }
+}
+
+fn tell(what: &str, told: Result<String, String>) {
+    match told {
+        Ok(counts) => println!("{what}: {counts}"),
+        Err(message) => stop(&format!("{what}: {message}")),
     }
 }
 
@@ -235,22 +249,27 @@ fn lists(desk: &mut Desk, calls: u64) {
     let tally = lists::run(desk, before + calls);
     println!(
         "lists: {} calls, {} lists, {} runs as predicted, {} pairs of orders equal \
-         ({} with refusals, {} with full tables), {} orders with other commands done, \
-         {} runs outside the condition ({} by two flags on one address alone); lists with hotplug \
-         marks {}, mirror {}, no-map {}; with an image end {}",
+         ({} with refusals, {} with full tables, {} with frees of what is not taken), {} orders \
+         with other commands done ({} with other frees), {} runs outside the condition ({} by two \
+         flags on one address alone); lists with hotplug marks {}, mirror {}, no-map {}; with an \
+         image end {}; with frees done {}, and refused the second time {}",
         desk.calls - before,
         tally.lists,
         tally.predicted,
         tally.pairs,
         tally.pairs_with_refusals,
         tally.pairs_with_full_tables,
+        tally.pairs_with_untaken,
         tally.other_done,
+        tally.other_freed,
         tally.outside,
         tally.two_flags,
         tally.flags[0],
         tally.flags[1],
         tally.flags[2],
         tally.images,
+        tally.freed,
+        tally.twice,
     );
     let floor = calls / CALLS_PER_PAIR;
     let mut floors = vec![("pairs of orders", tally.pairs, floor)];
@@ -263,6 +282,18 @@ fn lists(desk: &mut Desk, calls: u64) {
         ));
         floors.push(("lists with two flags", tally.two_flags, floor / 20));
         floors.push(("lists with an image end", tally.images, floor / 10));
+        floors.push(("lists with frees done", tally.freed, floor / 10));
+        floors.push(("lists with a second free", tally.twice, floor / 20));
+        floors.push((
+            "pairs with frees of what is not taken",
+            tally.pairs_with_untaken,
+            floor / 10,
+        ));
+        floors.push((
+            "orders with other frees done",
+            tally.other_freed,
+            floor / 20,
+        ));
         for (what, count) in [
             "lists with hotplug marks",
             "lists with mirror marks",
@@ -486,9 +517,12 @@ fn fills(desk: &mut Desk, there: &[Command], calls: u64) {
         }
         // More where there is no room for what is found.
         let times = if t == TAKEN.capacity { 8 } else { 2 };
-        for _ in 0..times {
+        for turn in 0..times {
             images::around(desk, rng, &near, &bytes);
             wishes::inside(desk, rng, &bytes);
+            if turn % 2 == 0 {
+                frees::around(desk, rng, &near, &bytes);
+            }
         }
     }
     let fewest = met.iter().flatten().min().expect("there are fills");
@@ -529,6 +563,9 @@ fn walks(desk: &mut Desk, calls: u64) {
             let number = desk.call(&call, &mut next, &mut slip);
             if let (0, call::Call::Allocate(query)) = (number, &call) {
                 runs::follow(desk, rng, query.wish, &mut next, &slip);
+            }
+            if number == number::DONE && rng.one_in(3) {
+                frees::follow(desk, rng, &call, &slip, &next);
             }
             // Fresh, conversions, coarse trims and those of intakes would end most
             // walks: try them on a copy.

@@ -1,6 +1,6 @@
 //! Numbers for calls, most of them near something the block holds.
 
-use crate::blocks::{get_u64, read_recs, some_flags};
+use crate::blocks::{get_u64, read_recs, some_flags, Rec};
 use crate::call::{Call, Command};
 use crate::editions;
 use crate::reports;
@@ -34,6 +34,8 @@ pub struct Near {
     limit: u64,
     image_end: u64,
     edges: Vec<u64>,
+    /// The taken records, but for those that cannot be in a table.
+    taken: Vec<Rec>,
     runs: Vec<Run>,
     nodes: Vec<u32>,
 }
@@ -51,6 +53,8 @@ impl Near {
                 }
             }
         }
+        let mut taken = read_recs(block, &TAKEN);
+        taken.retain(|rec| rec.base < rec.end());
         let runs = Board::read(block).map_or(Vec::new(), |board| board.free_runs());
         let (limit, image_end) = match block.len() {
             BLOCK_LEN => (get_u64(block, LIMIT_AT), get_u64(block, IMAGE_END_AT)),
@@ -60,6 +64,7 @@ impl Near {
             limit,
             image_end,
             edges,
+            taken,
             runs,
             nodes,
         }
@@ -118,6 +123,51 @@ impl Near {
             _ => rng.any_size(),
         };
         (base, size)
+    }
+
+    /// A base and a size for free: often what a record has, a part of it, one address more
+    /// at either end, what touches it, or what goes on to the next record.
+    pub fn to_free(&self, rng: &mut Rng) -> (u64, u64) {
+        if self.taken.is_empty() || rng.one_in(4) {
+            return self.range(rng);
+        }
+        let which = rng.index(self.taken.len());
+        let rec = self.taken[which];
+        let (lo, hi) = (rec.base, rec.end());
+        let before = lo.saturating_sub(1);
+        let behind = hi.saturating_add(1);
+        let inside = lo + rng.below(rec.size);
+        let (from, to) = match rng.below(16) {
+            0 => (lo, hi),
+            1 | 2 => (lo, inside + 1),
+            3 | 4 => (inside, hi),
+            5 | 6 if rec.size > 2 => {
+                let from = lo + 1 + rng.below(rec.size - 2);
+                (from, from + 1 + rng.below(hi - 1 - from))
+            }
+            7 => (lo, behind),
+            8 => (inside, behind),
+            9 => (before, hi),
+            10 => (before, inside + 1),
+            11 => (hi, hi.saturating_add(1 + rng.below(4))),
+            12 => (lo.saturating_sub(1 + rng.below(4)), lo),
+            13 | 14 => match self.taken.get(which + 1) {
+                Some(next) => (
+                    rng.pick(&[lo, hi - 1, hi]),
+                    rng.pick(&[next.base, next.base + 1, next.end()]),
+                ),
+                None => (before, behind),
+            },
+            _ => (inside, inside),
+        };
+        (from, to.saturating_sub(from))
+    }
+
+    /// The parts of the taken records between two addresses.
+    pub fn taken_between(&self, lo: u64, hi: u64) -> Vec<(u64, u64)> {
+        let parts = self.taken.iter();
+        let parts = parts.map(|rec| (rec.base.max(lo), rec.end().min(hi)));
+        parts.filter(|part| part.0 < part.1).collect()
     }
 
     pub fn alignment(&self, rng: &mut Rng, faults: u64) -> u64 {
@@ -331,7 +381,10 @@ impl Near {
                 }
             }
             _ => {
-                let (base, size) = self.range(rng);
+                let (base, size) = match command {
+                    Command::Free => self.to_free(rng),
+                    _ => self.range(rng),
+                };
                 Call::Range {
                     command,
                     base,

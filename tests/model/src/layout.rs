@@ -128,4 +128,5 @@ pub mod number {
     pub const BAD_DIRECTION: u32 = 7;
     pub const BAD_SLIP: u32 = 8;
     pub const BAD_REPORT: u32 = 10;
+    pub const NOT_TAKEN: u32 = 12;
 }

@@ -1,8 +1,8 @@
 //! A second program for the memory tables of document 01, the E820 intake of
 //! request E1, the limit of request E3, the larger block of request E4, the run's
-//! end of request E5, the flags and wishes of request E6 and the image end of
-//! request E7, written from those pages alone, to be compared with the library call
-//! by call.
+//! end of request E5, the flags and wishes of request E6, the image end of request
+//! E7 and the frees of request E10, written from those pages alone, to be compared
+//! with the library call by call.
 //!
 //! It shares no idea with a program that walks tables of records: a table is a
 //! map from boundary points to states, a search looks at whole free runs and
@@ -91,11 +91,25 @@ pub fn unmark(block: &mut [u8], base: u64, size: u64, flag: u32) -> u32 {
 }
 
 pub fn reserve(block: &mut [u8], base: u64, size: u64) -> u32 {
-    change_taken(block, base, size, true)
+    let after = good(block).map(|mut board| {
+        let (lo, hi) = covered(base, size);
+        board.taken.paint(lo, hi, |_| true);
+        board
+    });
+    settle(block, after)
 }
 
 pub fn free(block: &mut [u8], base: u64, size: u64) -> u32 {
-    change_taken(block, base, size, false)
+    let after = good(block).and_then(|mut board| {
+        let (lo, hi) = covered(base, size);
+        // All or nothing; of no address all are taken.
+        if !board.taken.is_all(lo, hi, true) {
+            return Err(NOT_TAKEN);
+        }
+        board.taken.paint(lo, hi, |_| false);
+        Ok(board)
+    });
+    settle(block, after)
 }
 
 pub fn trim(block: &mut [u8], alignment: u64) -> u32 {
@@ -256,15 +270,6 @@ fn change_flag(block: &mut [u8], base: u64, size: u64, flag: u32, set: bool) -> 
         let marked = |tag: Tag| tag.with(flag, set);
         board.memory.paint(lo, hi, |old| old.map(marked));
         Ok(board)
-    });
-    settle(block, after)
-}
-
-fn change_taken(block: &mut [u8], base: u64, size: u64, taken: bool) -> u32 {
-    let after = good(block).map(|mut board| {
-        let (lo, hi) = covered(base, size);
-        board.taken.paint(lo, hi, |_| taken);
-        board
     });
     settle(block, after)
 }

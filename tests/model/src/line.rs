@@ -47,6 +47,13 @@ impl<S: Copy + PartialEq> Line<S> {
         *self.turns.range(..=x).next_back().expect("0 has a state").1
     }
 
+    /// Whether every address from `lo` up to, not including, `hi` has this state.
+    pub fn is_all(&self, lo: u128, hi: u128, state: S) -> bool {
+        // The states at lo and at each turn behind it.
+        lo >= hi
+            || self.at(lo) == state && self.turns.range(lo + 1..hi).all(|turn| *turn.1 == state)
+    }
+
     /// Changes the state of every address from `lo` up to, not including, `hi`.
     pub fn paint(&mut self, lo: u128, hi: u128, change: impl Fn(S) -> S) {
         if lo >= hi {
@@ -141,6 +148,22 @@ mod tests {
         assert_eq!(line.stretches().count(), 2);
         line.paint(0, 31, |_| 0);
         assert_eq!(line, Line::all(0));
+    }
+
+    #[test]
+    fn is_all_asks_every_address() {
+        let mut line = Line::all(0);
+        line.paint(10, 20, |_| 1);
+        line.paint(21, 30, |_| 1);
+        for lo in 0..40 {
+            for hi in 0..40 {
+                for state in [0, 1] {
+                    let each = (lo..hi).all(|x| line.at(x) == state);
+                    assert_eq!(line.is_all(lo, hi, state), each, "{lo} to {hi}");
+                }
+            }
+        }
+        assert!(line.is_all(30, SPACE, 0) && !line.is_all(29, SPACE, 0));
     }
 
     #[test]

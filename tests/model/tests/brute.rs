@@ -446,7 +446,44 @@ fn inside_a_run(rng: &mut Rng, toy: &Toy) -> u64 {
     first as u64 + 1
 }
 
-fn walk(seed: u64, origin: u128, steps: usize, seen: &mut [[u64; 9]; 13]) {
+/// A base and a size around some group of what is taken: all of it, a part, up to one
+/// address more at either end, or on to the group behind it.
+fn around_taken(rng: &mut Rng, toy: &Toy) -> (u64, u64) {
+    let [_, groups] = toy.tables();
+    if groups.is_empty() {
+        return (toy.origin as u64, 1);
+    }
+    let some = rng.below(groups.len() as u64) as usize;
+    // From there on, often one that has an inside.
+    let wide = |group: &(usize, usize, Tag)| group.1 - group.0 > 2;
+    let which = match groups[some..].iter().position(wide) {
+        Some(more) if rng.one_in(2) => some + more,
+        _ => some,
+    };
+    let (first, past, _) = groups[which];
+    let (first, past) = (first as u64, past as u64);
+    let (from, to) = match rng.below(8) {
+        0 => (first, past),
+        1 => (first, past + 1),
+        2 => (first.saturating_sub(1), past),
+        3 => (first, first + 1 + rng.below(past - first)),
+        4 => (first + rng.below(past - first), past),
+        5 | 6 if past - first > 2 => (first + 1, past - 1),
+        6 => match groups.get(which + 1) {
+            Some(next) => (past - 1, next.0 as u64 + 1),
+            None => (past - 1, past + 1),
+        },
+        _ => (past, past + 1),
+    };
+    // At the end of the window one more is none that a toy knows.
+    let to = to.min(toy.memory.len() as u64);
+    ((toy.origin as u64).saturating_add(from), to - from.min(to))
+}
+
+/// Seen numbers are below this.
+const NUMBERS: usize = 13;
+
+fn walk(seed: u64, origin: u128, steps: usize, seen: &mut [[u64; NUMBERS]; 13]) {
     let mut rng = Rng(seed);
     let mut toy = start_toy(&mut rng, origin, MOST, &FLAGS);
     if !rng.one_in(3) {
@@ -553,10 +590,20 @@ fn walk(seed: u64, origin: u128, steps: usize, seen: &mut [[u64; 9]; 13]) {
                 (model::reserve(&mut said, base, size), keep(&mut toy, next))
             }
             7 => {
-                for i in toy.places(base, size) {
-                    next.taken[i] = false;
-                }
-                (model::free(&mut said, base, size), keep(&mut toy, next))
+                let (base, size) = match rng.below(3) {
+                    0 => (base, size),
+                    _ => around_taken(&mut rng, &toy),
+                };
+                let places = toy.places(base, size);
+                let number = if places.iter().any(|&i| !toy.taken[i]) {
+                    12
+                } else {
+                    for i in places {
+                        next.taken[i] = false;
+                    }
+                    keep(&mut toy, next)
+                };
+                (model::free(&mut said, base, size), number)
             }
             8 => {
                 let alignment = match rng.below(8) {
@@ -625,7 +672,7 @@ fn walk(seed: u64, origin: u128, steps: usize, seen: &mut [[u64; 9]; 13]) {
 
 #[test]
 fn random_walks_address_by_address() {
-    let mut seen = [[0; 9]; 13];
+    let mut seen = [[0; NUMBERS]; 13];
     for seed in 0..600 {
         let origin = [
             4096 - 40,
@@ -644,7 +691,7 @@ fn random_walks_address_by_address() {
         (4, vec![0, 2, 6]),
         (5, vec![0, 2, 6]),
         (6, vec![0, 6]),
-        (7, vec![0, 6]),
+        (7, vec![0, 6, 12]),
         (8, vec![0, 3]),
         (9, vec![0, 2, 5]),
         (10, vec![0, 2, 3, 4, 5]),
@@ -659,6 +706,83 @@ fn random_walks_address_by_address() {
             );
         }
     }
+}
+
+/// All that can be taken of seven addresses, at the bottom, in the middle and at the top
+/// of the space, with every range on them and beside them: what is freed, address by
+/// address, and what is then freed twice.
+#[test]
+fn every_small_free() {
+    const WIDE: usize = 7;
+    // Where the two last addresses of the window are the last of all, which is never
+    // taken, and one that is none.
+    const AT_TOP: u128 = LAST - 5;
+    let mut frees = 0;
+    // Done without an address, done with one or more; 12 with none taken, the first alone,
+    // the last alone, all but the first, all but the last, all but one between, others.
+    let mut met = [0; 9];
+    for origin in [0, 4096 - 3, AT_TOP] {
+        for states in 0..1 << WIDE {
+            let mut toy = Toy::new(origin, WIDE);
+            for i in 0..WIDE {
+                toy.taken[i] = states >> i & 1 == 1;
+            }
+            if (0..WIDE).any(|i| toy.taken[i] && toy.address(i) >= LAST) {
+                continue;
+            }
+            let block = toy.block().unwrap();
+            // At the top a range may go on behind the window.
+            let most = if origin == AT_TOP { WIDE + 3 } else { WIDE };
+            for from in 0..=WIDE {
+                let base = u64::try_from(toy.address(from)).unwrap_or(u64::MAX);
+                let mut sizes: Vec<u64> = (0..=(most - from) as u64).collect();
+                if origin == AT_TOP {
+                    sizes.extend([1 << 63, u64::MAX]);
+                }
+                for size in sizes {
+                    let places = toy.places(base, size);
+                    let taken: Vec<bool> = places.iter().map(|&i| toy.taken[i]).collect();
+                    let number = if taken.contains(&false) { 12 } else { 0 };
+                    let mut next = toy.clone();
+                    if number == 0 {
+                        for &i in &places {
+                            next.taken[i] = false;
+                        }
+                    }
+                    let wanted = next.block().unwrap();
+                    let mut said = block.clone();
+                    assert_eq!(model::free(&mut said, base, size), number);
+                    assert!(said == wanted, "{origin:#x} {states:#b} {from} {size:#x}");
+                    frees += 1;
+                    let untaken = taken.iter().filter(|&&t| !t).count();
+                    let (first, last) = (taken.first() == Some(&true), taken.last() == Some(&true));
+                    let which = match (untaken, taken.len() - untaken) {
+                        (0, 0) => 0,
+                        (0, _) => 1,
+                        (_, 0) => 2,
+                        (1, _) if last && !first => 5,
+                        (1, _) if first && !last => 6,
+                        (1, _) => 7,
+                        (_, 1) if first => 3,
+                        (_, 1) if last => 4,
+                        _ => 8,
+                    };
+                    met[which] += 1;
+                    // Again: done where there was nothing to free, else 12.
+                    let again = if number == 0 && !places.is_empty() {
+                        12
+                    } else {
+                        number
+                    };
+                    assert_eq!(model::free(&mut said, base, size), again);
+                    assert!(said == wanted);
+                }
+            }
+        }
+    }
+    // For each of 128 states 36 ranges, and for each of 32 at the top 76.
+    assert_eq!(frees, 2 * 128 * 36 + 32 * 76);
+    assert!(met.iter().all(|&count| count >= 100), "{met:?}");
 }
 
 /// Toys as edition 1 blocks: converted they are the same toy's block, with every

@@ -2,7 +2,8 @@
 //! of numbers on both sides, and the slips already paid for, on the block of
 //! request E4. Then the E820 intake of request E1, the limit of request E3, the
 //! conversion of request E4, the run's end of request E5, the flags and wishes of
-//! request E6 and the image end of request E7, each rule on both sides of its edge.
+//! request E6, the image end of request E7 and the frees of request E10, each rule on
+//! both sides of its edge.
 
 use model::layout::*;
 use model::Query;
@@ -369,7 +370,7 @@ fn all_commands(block: &[u8]) -> Vec<u32> {
         |b| model::mark(b, 0x10000, 1, NO_MAP),
         |b| model::unmark(b, 0x10000, 1, NO_MAP),
         |b| model::reserve(b, 0x10000, 1),
-        |b| model::free(b, 0x10000, 1),
+        |b| model::free(b, 0x10000, 0),
         |b| model::trim(b, 4096),
         |b| model::intake_e820(b, &report(&[(0x30000, 1, 1)])),
     ];
@@ -399,6 +400,10 @@ fn number_1_every_way_a_block_can_be_bad() {
 
     let bad = |what: &str, block: &[u8]| {
         assert_eq!(all_commands(block), [1; 13], "{what}");
+        // Taken, not taken, in part taken.
+        for (base, size) in [(0x18000, 1), (0x10000, 1), (0x17FFF, 2)] {
+            assert_eq!(freed(block, base, size), Err(1), "{what}");
+        }
     };
     let put = |at: usize, bytes: &[u8]| {
         let mut block = good.clone();
@@ -657,6 +662,9 @@ fn number_6_in_each_command() {
     assert_eq!(model::reserve(&mut block, 0x1000, 1), 0);
     assert_eq!(model::free(&mut block, 0, 0x1001), 0);
     assert_eq!(records(&block, &TAKEN).len(), 511);
+    assert_eq!(model::free(&mut block, 0x2010, 1), 0);
+    assert_eq!(records(&block, &TAKEN).len(), 512);
+    assert_eq!(model::free(&mut block, 0x4010, 1), 6);
 
     let mut block = full.clone();
     assert_eq!(model::add(&mut block, 0x200_0000, 0x1000, 0, 0), 0);
@@ -2474,4 +2482,283 @@ fn number_6_speaks_of_the_other_way_too() {
         Ok((0x1000, 0x2000))
     );
     assert_eq!(records(&block, &TAKEN).len(), 511);
+}
+
+// Request E10: no freeing what is not taken.
+
+/// The block after a free, or its refusal, which leaves the block as it was.
+fn freed(block: &[u8], base: u64, size: u64) -> Result<Vec<u8>, u32> {
+    let mut after = block.to_vec();
+    match model::free(&mut after, base, size) {
+        0 => Ok(after),
+        number => {
+            assert_eq!(after, block);
+            Err(number)
+        }
+    }
+}
+
+/// Memory M with these ranges (from, to) reserved, one after the other.
+fn reserved(ranges: &[(u64, u64)]) -> Vec<u8> {
+    let mut block = m();
+    for &(lo, hi) in ranges {
+        assert_eq!(model::reserve(&mut block, lo, hi - lo), 0);
+    }
+    block
+}
+
+#[test]
+fn number_12_is_its_own() {
+    assert_eq!(number::NOT_TAKEN, 12);
+}
+
+#[test]
+fn a_second_free_gets_12() {
+    let block = reserved(&[(0x11000, 0x12000), (0x14000, 0x15000)]);
+    let once = freed(&block, 0x11000, 0x1000).unwrap();
+    assert_eq!(once, reserved(&[(0x14000, 0x15000)]));
+    assert_eq!(freed(&once, 0x11000, 0x1000), Err(12));
+    // Not even a part of it, nor with what is still taken.
+    assert_eq!(freed(&once, 0x11800, 1), Err(12));
+    assert_eq!(freed(&once, 0x11000, 0x4000), Err(12));
+    // What is reserved again is freed again.
+    let mut again = once.clone();
+    assert_eq!(model::reserve(&mut again, 0x11000, 0x1000), 0);
+    assert_eq!(freed(&again, 0x11000, 0x1000), Ok(once.clone()));
+    // The other range once, too.
+    let none = freed(&once, 0x14000, 0x1000).unwrap();
+    assert_eq!(none, m());
+    assert_eq!(freed(&none, 0x14000, 0x1000), Err(12));
+}
+
+#[test]
+fn an_allocation_is_freed_once() {
+    for direction in [TOP_DOWN, BOTTOM_UP] {
+        let start = turned(m(), direction);
+        let mut block = start.clone();
+        let (a, _) = allocate(&mut block, &query(0x1000, 0x1000)).unwrap();
+        let (b, _) = allocate(&mut block, &query(0x1000, 0x1000)).unwrap();
+        let once = freed(&block, a, 0x1000).unwrap();
+        assert_eq!(freed(&once, a, 0x1000), Err(12));
+        assert_eq!(freed(&once, a.min(b), 0x2000), Err(12));
+        assert_eq!(freed(&once, b, 0x1000), Ok(start));
+    }
+}
+
+#[test]
+fn two_touching_reserves_are_freed_as_one() {
+    for ranges in [
+        [(0x11000, 0x12000), (0x12000, 0x13000)],
+        [(0x12000, 0x13000), (0x11000, 0x12000)],
+        [(0x11000, 0x12800), (0x11800, 0x13000)],
+    ] {
+        let block = reserved(&ranges);
+        assert_eq!(freed(&block, 0x11000, 0x2000), Ok(m()));
+        assert_eq!(
+            freed(&block, 0x11800, 0x1000),
+            Ok(reserved(&[(0x11000, 0x11800), (0x12800, 0x13000)]))
+        );
+        assert_eq!(freed(&block, 0x11000, 0x2001), Err(12));
+        assert_eq!(freed(&block, 0x10FFF, 0x2001), Err(12));
+    }
+}
+
+#[test]
+fn ranges_on_both_sides_of_a_taken_record() {
+    // Every range around [0x11010, 0x11020), alone, with others far off, and with memory
+    // or none under it.
+    let (first, past) = (0x11010u64, 0x11020u64);
+    let alone = reserved(&[(first, past)]);
+    let among = reserved(&[(0x10000, 0x10100), (first, past), (0x30000, 0x30100)]);
+    let mut bare = alone.clone();
+    assert_eq!(model::remove(&mut bare, 0, u64::MAX), 0);
+    for block in [alone, among, bare] {
+        for base in first - 2..=past + 2 {
+            for end in base..=past + 2 {
+                let size = end - base;
+                let inside = first <= base && end <= past;
+                let wanted = if size == 0 {
+                    Ok(block.clone())
+                } else if inside {
+                    let mut rest = freed(&block, first, past - first).unwrap();
+                    assert_eq!(model::reserve(&mut rest, first, base - first), 0);
+                    assert_eq!(model::reserve(&mut rest, end, past - end), 0);
+                    Ok(rest)
+                } else {
+                    Err(12)
+                };
+                assert_eq!(freed(&block, base, size), wanted, "{base:#x} {size:#x}");
+            }
+        }
+    }
+}
+
+#[test]
+fn ranges_over_two_taken_records() {
+    // A gap of one address.
+    let block = reserved(&[(0x11000, 0x12000), (0x12001, 0x13000)]);
+    assert_eq!(records(&block, &TAKEN).len(), 2);
+    assert_eq!(freed(&block, 0x11000, 0x2000), Err(12));
+    // Only the middle is not taken, of three addresses.
+    assert_eq!(freed(&block, 0x11FFF, 3), Err(12));
+    // Only the first is taken, only the last, none.
+    assert_eq!(freed(&block, 0x11FFF, 2), Err(12));
+    assert_eq!(freed(&block, 0x12000, 2), Err(12));
+    assert_eq!(freed(&block, 0x12000, 1), Err(12));
+    // The addresses beside the gap.
+    assert_eq!(
+        freed(&block, 0x11FFF, 1),
+        Ok(reserved(&[(0x11000, 0x11FFF), (0x12001, 0x13000)]))
+    );
+    assert_eq!(
+        freed(&block, 0x12001, 1),
+        Ok(reserved(&[(0x11000, 0x12000), (0x12002, 0x13000)]))
+    );
+    // With the gap reserved all of it is.
+    let mut whole = block.clone();
+    assert_eq!(model::reserve(&mut whole, 0x12000, 1), 0);
+    assert_eq!(freed(&whole, 0x11000, 0x2000), Ok(m()));
+
+    // A wide gap: the first address and the last alone, and all but the middle.
+    let block = reserved(&[(0x11000, 0x11001), (0x12000, 0x12001)]);
+    assert_eq!(freed(&block, 0x11000, 0x1001), Err(12));
+    assert_eq!(freed(&block, 0x11000, 0x1000), Err(12));
+    assert_eq!(freed(&block, 0x11001, 0x1000), Err(12));
+    assert_eq!(freed(&block, 0x10FFF, 0x1003), Err(12));
+    // All records at once.
+    assert_eq!(freed(&block, 0, u64::MAX), Err(12));
+}
+
+#[test]
+fn nothing_is_freed_of_an_empty_table() {
+    for block in [fresh(), m()] {
+        for base in [0, 1, 0x10000, 0x20000, 1 << 63, u64::MAX - 1] {
+            for size in [1, 2, 0x1000, 1 << 63, u64::MAX] {
+                assert_eq!(freed(&block, base, size), Err(12), "{base:#x} {size:#x}");
+            }
+        }
+    }
+}
+
+#[test]
+fn a_size_of_0_is_freed_anywhere() {
+    let mut bad = taken_comb();
+    bad[52] = 1;
+    for block in [fresh(), m(), reserved(&[(0x11000, 0x12000)]), taken_comb()] {
+        for base in [0, 1, 0x10FFF, 0x11000, 0x11800, 0x12000, 0x20000] {
+            assert_eq!(freed(&block, base, 0), Ok(block.clone()), "{base:#x}");
+        }
+        assert_eq!(freed(&block, u64::MAX, 0), Ok(block.clone()));
+        assert_eq!(freed(&block[1..], 0x11000, 0), Err(1));
+    }
+    // A bad block gets 1, whatever the size.
+    for size in [0, 1, 0x1000, 0x1001, u64::MAX] {
+        assert_eq!(freed(&bad, 0, size), Err(1));
+        assert_eq!(freed(&bad, u64::MAX, size), Err(1));
+    }
+}
+
+#[test]
+fn frees_cut_at_the_top() {
+    let sizes = [1, 2, 3, 0x1000, 1 << 63, u64::MAX - 1, u64::MAX];
+    // From the last address on nothing is left, whatever is taken.
+    let at_top = reserved(&[(u64::MAX - 0x10, u64::MAX)]);
+    for block in [fresh(), m(), at_top.clone()] {
+        for size in sizes {
+            assert_eq!(freed(&block, u64::MAX, size), Ok(block.clone()));
+        }
+    }
+    // The last address that can be taken: any size but 0 covers it alone.
+    for size in sizes {
+        let rest = reserved(&[(u64::MAX - 0x10, u64::MAX - 1)]);
+        assert_eq!(freed(&at_top, u64::MAX - 1, size), Ok(rest.clone()));
+        assert_eq!(freed(&rest, u64::MAX - 1, size), Err(12));
+        assert_eq!(freed(&m(), u64::MAX - 1, size), Err(12));
+    }
+    // Taken up to the cut; one before, and one short of it.
+    for past in [0, 1, 2, 0x1000, u64::MAX - 0x11] {
+        let size = 0x10 + past;
+        assert_eq!(freed(&at_top, u64::MAX - 0x10, size), Ok(m()));
+        assert_eq!(freed(&at_top, u64::MAX - 0x11, size + 1), Err(12));
+        let short = reserved(&[(u64::MAX - 0x10, u64::MAX - 1)]);
+        assert_eq!(freed(&short, u64::MAX - 0x10, size), Err(12));
+        assert_eq!(freed(&short, u64::MAX - 0x10, 0xF), Ok(m()));
+        let late = reserved(&[(u64::MAX - 0xF, u64::MAX)]);
+        assert_eq!(freed(&late, u64::MAX - 0x10, size), Err(12));
+    }
+    // A sum that goes round is not taken for a small range.
+    let low = reserved(&[(0, 0x10)]);
+    assert_eq!(freed(&low, 0x8, u64::MAX), Err(12));
+    assert_eq!(freed(&low, u64::MAX - 1, 0x8), Err(12));
+    // All that can be taken.
+    let mut all = m();
+    assert_eq!(model::reserve(&mut all, 0, u64::MAX), 0);
+    assert_eq!(freed(&all, 0, u64::MAX), Ok(m()));
+    let most = freed(&all, 0, u64::MAX - 1).unwrap();
+    assert_eq!(records(&most, &TAKEN), [(u64::MAX - 1, 1, 0, 0)]);
+}
+
+#[test]
+fn numbers_12_and_6_in_a_full_table() {
+    // 512 records of a page; record 1 is [0x2000, 0x3000).
+    let full = taken_comb();
+    let count = |after: Result<Vec<u8>, u32>| after.map(|block| records(&block, &TAKEN).len());
+    for (base, size, wanted) in [
+        (0x2400, 0x400, Err(6)),
+        (0x2001, 1, Err(6)),
+        (0x2001, 0xFFE, Err(6)),
+        (0x2000, 0x1000, Ok(511)),
+        (0x2000, 0xFFF, Ok(512)),
+        (0x2001, 0xFFF, Ok(512)),
+        (0x2000, 1, Ok(512)),
+        (0x2FFF, 1, Ok(512)),
+        // One past the record is 12, an inner part of it among the range or not.
+        (0x2001, 0x1000, Err(12)),
+        (0x2000, 0x1001, Err(12)),
+        (0x1FFF, 0x1001, Err(12)),
+        (0x1FFF, 2, Err(12)),
+        (0x2FFF, 2, Err(12)),
+        (0x3000, 0x1000, Err(12)),
+        (0x2800, 0x2000, Err(12)),
+        (0, 0x40_0000, Err(12)),
+        (0x200_0000, 1, Err(12)),
+        (0x2400, 0, Ok(512)),
+        (u64::MAX, 1, Ok(512)),
+    ] {
+        assert_eq!(
+            count(freed(&full, base, size)),
+            wanted,
+            "{base:#x} {size:#x}"
+        );
+    }
+    // With room for one record an inner part is done, once.
+    let mut room = full.clone();
+    assert_eq!(model::free(&mut room, 0, 0x1000), 0);
+    let once = freed(&room, 0x2400, 0x400).unwrap();
+    assert_eq!(records(&once, &TAKEN).len(), 512);
+    assert_eq!(freed(&once, 0x2400, 0x400), Err(12));
+    assert_eq!(freed(&once, 0x2200, 0x100), Err(6));
+}
+
+#[test]
+fn only_free_asks_what_is_there() {
+    // Reserve of what is taken, and remove, mark and unmark of no memory are done.
+    let block = reserved(&[(0x11000, 0x12000)]);
+    for (base, size) in [(0x11000, 0x1000), (0x11400, 0x400)] {
+        let mut again = block.clone();
+        assert_eq!(model::reserve(&mut again, base, size), 0);
+        assert_eq!(again, block);
+    }
+    for (base, size) in [(0x30000, 0x1000), (0, 0x10000), (0x20000, 1)] {
+        let changes: [fn(&mut [u8], u64, u64) -> u32; 3] = [
+            |b, base, size| model::remove(b, base, size),
+            |b, base, size| model::mark(b, base, size, NO_MAP),
+            |b, base, size| model::unmark(b, base, size, HOTPLUG),
+        ];
+        for change in changes {
+            let mut same = block.clone();
+            assert_eq!(change(&mut same, base, size), 0);
+            assert_eq!(same, block);
+        }
+    }
 }

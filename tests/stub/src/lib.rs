@@ -6,7 +6,7 @@
 //! `// mutant N: what is wrong` beside the code it changes.
 
 use std::sync::atomic::{AtomicU32, AtomicU64, Ordering};
-use std::sync::OnceLock;
+use std::sync::{Mutex, MutexGuard, OnceLock};
 
 /// What differs from edition to edition.
 struct Edition {
@@ -818,7 +818,12 @@ unsafe fn change_memory(
 ) -> u32 {
     let b = lent_mut(block, len);
     let Some(tables) = parse(b) else { return 1 };
-    let pieces = split(&tables.memory, base, cut(base, size), change);
+    let end = cut(base, size);
+    // mutant 139: remove, mark and unmark answer 12 where no memory is
+    if mutant(139) && base < end && !tables.memory.iter().any(|r| r.base < end && base < r.end) {
+        return 12;
+    }
+    let pieces = split(&tables.memory, base, end, change);
     let number = store(b, 0, &pieces);
     // mutant 34: remove, mark and unmark free the range too
     if mutant(34) && number == 0 {
@@ -919,7 +924,79 @@ pub unsafe extern "C" fn memblock_unmark(
 pub unsafe extern "C" fn memblock_reserve(block: *mut u8, len: usize, base: u64, size: u64) -> u32 {
     let b = lent_mut(block, len);
     let Some(tables) = parse(b) else { return 1 };
-    store(b, 1, &fill(&tables.taken, base, cut(base, size), 0, 0))
+    let end = cut(base, size);
+    // mutant 140: reserve answers 12 where all is taken already
+    if mutant(140) && base < end && holder(&tables.taken, base, end).is_some() {
+        return 12;
+    }
+    *last_reserve() = (base, end);
+    store(b, 1, &fill(&tables.taken, base, end, 0, 0))
+}
+
+/// The range of the last reserve, for mutant 150.
+fn last_reserve() -> MutexGuard<'static, (u64, u64)> {
+    static LAST: Mutex<(u64, u64)> = Mutex::new((0, 0));
+    LAST.lock().expect("never poisoned")
+}
+
+/// The record that has the whole range.
+fn holder(list: &[Rec], base: u64, end: u64) -> Option<&Rec> {
+    list.iter().find(|r| r.base <= base && end <= r.end)
+}
+
+/// Whether free must answer 12 on a good block.
+fn not_taken(tables: &Block, base: u64, size: u64) -> bool {
+    let (taken, end) = (&tables.taken, cut(base, size));
+    let has = |x: u64| taken.iter().any(|r| r.base <= x && x < r.end);
+    // mutant 141: a size of 0 gets 12 where the address is not taken
+    // mutant 142: a range that the cut leaves nothing of gets 12
+    if base >= end {
+        return mutant(141) && size == 0 && !has(base) || mutant(142) && size > 0;
+    }
+    let passed = base.checked_add(size).is_none();
+    let full = taken.len() == NOW.capacity[1];
+    let (first, last) = (has(base), has(end - 1));
+    let some = taken.iter().any(|r| r.base < end && base < r.end);
+    let whole = holder(taken, base, end);
+    match whole {
+        // mutant 143: all of a record gets 12
+        Some(r) if mutant(143) => r.base == base && r.end == end,
+        // mutant 144: a range that begins where its record does gets 12
+        Some(r) if mutant(144) => r.base == base && end < r.end,
+        // mutant 145: a range that ends where its record does gets 12
+        Some(r) if mutant(145) => r.base < base && end == r.end,
+        // mutant 146: the inside of a record of a full table gets 12
+        Some(r) if mutant(146) => full && r.base < base && end < r.end,
+        // mutant 147: a range whose sum goes past the top gets 12, taken or not
+        Some(_) if mutant(147) => passed,
+        // mutant 148: taken addresses that are no memory get 12
+        Some(_) if mutant(148) => holder(&tables.memory, base, end).is_none(),
+        // mutant 149: the last taken record counts as not taken
+        Some(r) if mutant(149) => taken.last() == Some(r),
+        // mutant 150: two reserves that touch, freed as one, get 12
+        Some(_) if mutant(150) => {
+            let (from, to) = *last_reserve();
+            from < end && base < to && (base < from && end == to || base == from && to < end)
+        }
+        Some(_) => false,
+        // mutant 151: what is not taken is freed as before
+        None if mutant(151) => false,
+        // mutant 152: only the first address is looked at
+        None if mutant(152) => !first,
+        // mutant 153: only the last address is looked at
+        None if mutant(153) => !last,
+        // mutant 154: only the first and the last address are looked at
+        None if mutant(154) => !first || !last,
+        // mutant 155: 12 is for a range of which nothing is taken
+        None if mutant(155) => !some,
+        // mutant 156: a range that ends one past a record is freed
+        None if mutant(156) => holder(taken, base, end - 1).is_none() || end - base == 1,
+        // mutant 157: a range that begins one before a record is freed
+        None if mutant(157) => holder(taken, base + 1, end).is_none() || end - base == 1,
+        // mutant 158: a range whose sum goes past the top is not looked at
+        None if mutant(158) => !passed,
+        None => true,
+    }
 }
 
 /// # Safety
@@ -927,8 +1004,21 @@ pub unsafe extern "C" fn memblock_reserve(block: *mut u8, len: usize, base: u64,
 #[no_mangle]
 pub unsafe extern "C" fn memblock_free(block: *mut u8, len: usize, base: u64, size: u64) -> u32 {
     let b = lent_mut(block, len);
-    let Some(tables) = parse(b) else { return 1 };
+    let Some(tables) = parse(b) else {
+        // mutant 159: 12 comes before 1
+        let early = mutant(159) && len == NOW.len && base < cut(base, size);
+        return if early { 12 } else { 1 };
+    };
     let end = cut(base, size);
+    if not_taken(&tables, base, size) {
+        // mutant 160: a free that gets 12 frees what is taken of its range
+        if mutant(160) {
+            store(b, 1, &split(&tables.taken, base, end, |_| false));
+        }
+        // mutant 161: a full table gives 6 for what is not taken
+        let full = tables.taken.len() == NOW.capacity[1];
+        return if mutant(161) && full { 6 } else { 12 };
+    }
     // mutant 35: a free that ends inside a record leaves the record
     if mutant(35) && tables.taken.iter().any(|r| r.base < end && end < r.end) {
         return 0;

@@ -5,8 +5,8 @@
 //! old block's sum, must be the line that stands there; the same for both tables at the end.
 //! Fails at the first difference, at a line it does not know, and when the
 //! transcript does not reach its end or leaves out a function, a number, a flag, a
-//! wish, a way that a bottom-up allocation can go from the image's end, or part of the
-//! memory map.
+//! wish, a way that a bottom-up allocation can go from the image's end, a second free
+//! of one range, or part of the memory map.
 
 use model::layout::*;
 use model::{Board, Direction, Query};
@@ -40,7 +40,7 @@ const FUNCTIONS: [&str; 15] = [
     "memblock_intake_e820",
     "memblock_convert",
 ];
-const NUMBERS: [u32; 10] = [0, 1, 2, 3, 4, 5, 6, 7, 8, 10];
+const NUMBERS: [u32; 11] = [0, 1, 2, 3, 4, 5, 6, 7, 8, 10, 12];
 /// The functions that take a flag or a wish as their last number, and each of these.
 const MARKS: [&str; 2] = ["memblock_mark", "memblock_unmark"];
 const EACH_FLAG: [u32; 3] = [HOTPLUG, MIRROR, NO_MAP];
@@ -136,6 +136,9 @@ struct Replay {
     /// way, from whatever image end: not every board has memory below the image.
     above: bool,
     other_way: bool,
+    /// The ranges freed in each block, and whether one of them was freed once more.
+    freed: BTreeSet<(String, u64, u64)>,
+    freed_twice: bool,
     /// The functions called with each last number, and not refused for it.
     words: BTreeSet<(String, u64)>,
     tables: BTreeSet<String>,
@@ -163,6 +166,8 @@ impl Replay {
             went_on: false,
             above: false,
             other_way: false,
+            freed: BTreeSet::new(),
+            freed_twice: false,
             words: BTreeSet::new(),
             tables: BTreeSet::new(),
             ended: false,
@@ -363,6 +368,13 @@ impl Replay {
         if let (0 | 5, Some(&word)) = (number, numbers.last()) {
             self.words.insert((function.into(), word));
         }
+        if let ("memblock_free", Some((base, size))) = (function, ranged) {
+            let range = (name.clone(), base, size);
+            self.freed_twice |= number == number::NOT_TAKEN && self.freed.contains(&range);
+            if number == 0 {
+                self.freed.insert(range);
+            }
+        }
         if number == 0 {
             match (function, &name[..], ranged) {
                 ("memblock_allocate", "block", _) => {
@@ -437,6 +449,9 @@ impl Replay {
         }
         if !self.above || !self.other_way {
             return Err("no bottom-up allocation above the image, or none the other way".into());
+        }
+        if !self.freed_twice {
+            return Err("nothing was freed twice".into());
         }
         let flags = MARKS.iter().flat_map(|f| EACH_FLAG.map(|word| (f, word)));
         let wishes = SEARCHES

@@ -4,7 +4,7 @@ use Rattle.regions.proofs.Numbers.{bytes-all}
 use Rattle.block.specs.Block.{current}
 use Rattle.block.proofs.Blocks.{good-length}
 use Rattle.range.proofs.Storing.{span-le}
-use Rattle.range.proofs.Ranging.{editable, range-whole, range-changeable, range-stored}
+use Rattle.range.proofs.Ranging.{editable, range-whole, range-changeable, range-tagged, range-stored-if}
 use borrow.Author.Needs.{needs}
 use Rattle.range.proofs.change_range.Statement.{statement}
 use Rattle.range.proofs.change_range.Tie as tie
@@ -41,7 +41,8 @@ change-table-requires c κs =
     let t = c .before .before .tally .ensures in
     let u = c .before .cut-end .ensures in
     let bs = bytes-all _ (c .before .before .before .before .before .before .slice-known .given) in
-    (range-whole _ (s .pre .0) (s .args .kind) _ _ (y .0) (y .1) _ h _ t bs, range-changeable _ (s .pre .0) (s .args .kind) _ _ (y .0) (y .1) _ h _ t _ (s .pre .1) (editable (s .args .kind) _ (s .args .base) _ _ (s .pre .1) (omega arith) u))
+    let d = editable (s .args .kind) _ (s .args .base) _ _ (s .pre .1 .0) (omega arith) u in
+    (range-whole _ (s .pre .0) (s .args .kind) _ _ (y .0) (y .1) _ h _ t bs, (range-changeable _ (s .pre .0) (s .args .kind) _ _ (y .0) (y .1) _ h _ t _ (s .pre .1 .0) d, range-tagged _ (s .pre .0) (s .args .kind) _ _ (y .0) (y .1) _ h _ t _ (s .pre .1 .1)))
 
 store-changed-requires : tie.Need-store-changed-requires
 store-changed-requires c κs =
@@ -55,7 +56,7 @@ returns c =
     let s = c .before .before .before .before .before .before .before .before .before .before .before .before .before .before in
     let y = c .before .before .before .before .before .before .before .before .before .before .before .before .table-span .ensures in
     let bs = bytes-all _ (c .before .before .before .before .before .before .before .before .before .before .before .before .before .slice-known .given) in
-    range-stored _ (s .pre .0) (s .args .kind) _ _ (y .0) (y .1) _ (c .before .before .before .before .before .before .before .before .before .before .get-header .ensures) _ (c .before .before .before .before .before .before .before .before .before .tally .ensures) _ (s .args .base) _ _ (c .before .before .before .before .before .before .before .before .cut-end .ensures) _ _ (c .before .before .before .before .before .before .change-table .ensures) bs _ (c .before .before .store-changed .ensures)
+    range-stored-if _ (s .pre .0) (s .args .kind) _ _ (y .0) (y .1) _ (c .before .before .before .before .before .before .before .before .before .before .get-header .ensures) _ (c .before .before .before .before .before .before .before .before .before .tally .ensures) _ (s .args .base) _ _ (c .before .before .before .before .before .before .before .before .cut-end .ensures) (s .args .strict) _ _ (c .before .before .before .before .before .before .change-table .ensures) bs _ (c .before .before .store-changed .ensures)
 
 pub change-range-spec : {M : Type 1} → statement M
 change-range-spec =

@@ -1,12 +1,12 @@
 -- Where all records have one tag, a table has every address of a range exactly if one record has: the first that ends at or above its base. Assumes nothing.
-use Prim.Native.Nat.{ℕ, zero, suc, _+_, _*_, _-_, _≤_, _<_}
+use Prim.Native.Nat.{ℕ, _+_, _*_, _-_, _≤_, _<_}
 use mathlib.Core.Path.{_≡_, refl, sym, ap, _∙_}
-use mathlib.Core.Bool.{Bool, true, false, not, cond}
-use mathlib.Core.List.{List, [], _∷_}
+use mathlib.Core.Bool.{Bool, true, false, not}
+use mathlib.Core.List.{List}
 use mathlib.Core.Logic.{_⊎_, inl, inr}
 use native.Mathlib.Omega.{arith}
 use lib.Dec.{leb}
-use lib.ListN.{drop, take}
+use lib.ListN.{take, drop, take-append-drop}
 use borrow.Author.Tests.{leb-true, leb-false, not-true, not-false}
 use Rattle.address.specs.declared.Address.{Address}
 use Rattle.address.specs.declared.CheckedAddress.{CheckedAddress}
@@ -18,7 +18,7 @@ use Rattle.regions.specs.declared.Tag.{Tag}
 use Rattle.regions.specs.declared.Region.{Region}
 use Rattle.regions.specs.declared.State.the-variants.{Absent, Present}
 use Rattle.regions.specs.declared.Change.the-variants.{Fill}
-use Rattle.regions.specs.Meaning.{end, inside, at, shortest, top, top-is}
+use Rattle.regions.specs.Meaning.{end, at, shortest, top, top-is}
 use Rattle.regions.specs.Bytes.{readRegion, readRegions}
 use Rattle.regions.specs.Changes.{change, after, allowed}
 use Rattle.regions.proofs.Rises.{Canonical, reach, rises-Rises}
@@ -34,31 +34,15 @@ use Rattle.change.specs.declared.gap.Gap.{Gap}
 use Rattle.change.specs.declared.gap.Gap.the-variants as Gap
 use Rattle.lists.specs.declared.Edit.{Edit}
 use Rattle.lists.specs.Steps.{finished}
-use Rattle.change.specs.Steps.{AllTagged, OneTagged, Stored, StoredIf, GapAs}
+use Rattle.change.specs.Steps.{OneTagged, Stored, StoredIf, GapAs}
 use Rattle.change.proofs.Filling.{gap-at}
-use Rattle.change.proofs.Parts.{halves, whole, none-left, rest, above, past}
+use Rattle.change.proofs.Parts.{parts-rise, none-left, rest-begins, behind-rises, ends-by-top}
+use Rattle.change.proofs.Tagged.{tagged-drop, tagged-at}
 
 -- ---- nothing to look for
 
 pub lax-allowed : (strict : Bool) (lo hi : ℕ) (xs : List Region) → not strict ≡ true → true ≡ allowed strict lo hi xs
 lax-allowed strict lo hi xs e = rw (not-true strict e)
-
--- ---- one tag
-
-tagged-drop : (t : Tag) (i : ℕ) (xs : List Region) → AllTagged t xs → AllTagged t (drop i xs)
-tagged-drop t zero xs h = h
-tagged-drop t (suc i) [] h = tt
-tagged-drop t (suc i) (r ∷ rs) h = tagged-drop t i rs (h .1)
-
--- each address is absent or has the tag
-tagged-at : (t : Tag) (xs : List Region) (a : ℕ) → AllTagged t xs → (at xs a ≡ Absent) ⊎ (at xs a ≡ Present t)
-unfolding at
-tagged-at t [] a h = inl refl
-tagged-at t (r ∷ rs) a h = go (inside (r .base .0) (end r) a) (tagged-at t rs a (h .1))
-  where
-    go : (b : Bool) → (at rs a ≡ Absent) ⊎ (at rs a ≡ Present t) → (cond b (Present (r .tag)) (at rs a) ≡ Absent) ⊎ (cond b (Present (r .tag)) (at rs a) ≡ Present t)
-    go true ih = inr (ap Present (h .0))
-    go false ih = ih
 
 -- ---- one look
 
@@ -70,7 +54,7 @@ module _ (strict : Bool) (s : not strict ≡ false) (l : List ℕ) (n i lo hi : 
   rest-says : (a : ℕ) → lo ≤ a → at (readRegions n l) a ≡ at (drop i (readRegions n l)) a
   rest-says a h =
       let r : reach 0 (take i (readRegions n l)) ≤ lo - 1 = rw e (ending-reach (lo - 1) 0 (readRegions n l) (omega arith)) in
-      rw (halves l n i w k) at (rest-at (take i (readRegions n l)) (drop i (readRegions n l)) a (whole l n i w k) (omega arith))
+      rw (take-append-drop i (readRegions n l)) at (rest-at (take i (readRegions n l)) (drop i (readRegions n l)) a (parts-rise l n i w k) (omega arith))
 
   missing : (x : ℕ) → lo ≤ x → x < hi → at (drop i (readRegions n l)) x ≡ Absent → false ≡ allowed strict lo hi (readRegions n l)
   missing x a b h =
@@ -83,10 +67,10 @@ module _ (strict : Bool) (s : not strict ≡ false) (l : List ℕ) (n i lo hi : 
 
   module _ (h : i < n) (r : Region) (here : r ≡ readRegion (drop (24 * i) l)) where
     pub past-allowed : (x : CheckedAddress) → x ≡ address (end r) → x ≡ Outside → false ≡ allowed strict lo hi (readRegions n l)
-    past-allowed x q o = absurd (omega (arith, past l n i w k h r here, top-is, address-outside (end r) x q o))
+    past-allowed x q o = absurd (omega (arith, ends-by-top l n i w k h r here, top-is, address-outside (end r) x q o))
 
     pub above-allowed : lo < r .base .0 → false ≡ allowed strict lo hi (readRegions n l)
-    above-allowed b = missing lo (omega arith) m (ap (λ (xs : List Region). at xs lo) (rest l n i w k h r here) ∙ at-before r (drop (i + 1) (readRegions n l)) lo b ∙ rises-below lo (above l n i w k h r here) (omega arith))
+    above-allowed b = missing lo (omega arith) m (ap (λ (xs : List Region). at xs lo) (rest-begins l n i w k h r here) ∙ at-before r (drop (i + 1) (readRegions n l)) lo b ∙ rises-below lo (behind-rises l n i w k h r here) (omega arith))
 
     -- it ends at or above lo
     ends : lo ≤ end r
@@ -110,21 +94,21 @@ module _ (strict : Bool) (s : not strict ≡ false) (l : List ℕ) (n i lo hi : 
         all j =
             rw (not-false strict s)
             (sym (each-all (at (readRegions n l)) lo (hi - lo) (λ a u v.
-            rw (rest-says a u, rest l n i w k h r here, at-here r (drop (i + 1) (readRegions n l)) a (omega arith) (omega arith)))))
+            rw (rest-says a u, rest-begins l n i w k h r here, at-here r (drop (i + 1) (readRegions n l)) a (omega arith) (omega arith)))))
 
         -- the next one does not begin where it ends
         gap : (at (drop (i + 1) (readRegions n l)) (end r) ≡ Absent) ⊎ (at (drop (i + 1) (readRegions n l)) (end r) ≡ Present (g .tag)) → at (drop (i + 1) (readRegions n l)) (end r) ≡ Absent
         gap (inl d) = d
         gap (inr d) =
             let f = tagged-drop (g .tag) i (readRegions n l) (g .all) in
-            let y : r .tag ≡ g .tag = (rw (rest l n i w k h r here) at f) .0 in
-            absurd (rises-apart (above l n i w k h r here) (d ∙ ap Present (sym y)))
+            let y : r .tag ≡ g .tag = (rw (rest-begins l n i w k h r here) at f) .0 in
+            absurd (rises-apart (behind-rises l n i w k h r here) (d ∙ ap Present (sym y)))
 
         go : (b : Bool) → leb hi (end r) ≡ b → b ≡ allowed strict lo hi (readRegions n l)
         go true j = all (leb-true hi (end r) j)
         go false j =
             let z = gap (tagged-at (g .tag) (drop (i + 1) (readRegions n l)) (end r) (tagged-drop (g .tag) (i + 1) (readRegions n l) (g .all))) in
-            missing (end r) ends (leb-false hi (end r) j) (ap (λ (xs : List Region). at xs (end r)) (rest l n i w k h r here) ∙ at-past r (drop (i + 1) (readRegions n l)) (end r) (omega arith) ∙ z)
+            missing (end r) ends (leb-false hi (end r) j) (ap (λ (xs : List Region). at xs (end r)) (rest-begins l n i w k h r here) ∙ at-past r (drop (i + 1) (readRegions n l)) (end r) (omega arith) ∙ z)
 
 -- ---- stored if it is allowed
 

@@ -6,7 +6,7 @@ use mathlib.Core.List.{List, [], _∷_, _++_, append-assoc}
 use mathlib.Core.Logic.{_⊎_, inl, inr}
 use native.Mathlib.Omega.{arith}
 use lib.Dec.{leb}
-use lib.ListN.{length, take, drop}
+use lib.ListN.{length, take, drop, take-append-drop}
 use Rattle.address.proofs.Tests.{le-or-lt, zero-not-one}
 use Rattle.regions.specs.declared.State.{State}
 use borrow.Author.Tests.{leb-true, leb-false, le-leb, not-true, not-false}
@@ -41,7 +41,7 @@ use Rattle.records.specs.Steps.{endingBy, put, Table, Whole}
 use Rattle.change.specs.Steps.{clearTo, Stored, JoinedBelow, JoinedAbove, Fills, GapAs, Vacant}
 use Rattle.records.proofs.Placing.{further, ending-reach, ending-above, ending-past, place-le}
 use Rattle.records.proofs.Placing.{take-read, drop-read}
-use Rattle.change.proofs.Parts.{halves, whole, none-left, rest, behind, past}
+use Rattle.change.proofs.Parts.{parts-rise, none-left, rest-begins, rest-rises, ends-by-top}
 use Rattle.change.proofs.Splicing.{splice-full, put-done}
 
 -- ---- is it free
@@ -151,7 +151,7 @@ module _ (l : List ℕ) (n i : ℕ) (hi : Address) (tag : Tag) (w : Table l n) (
   filled-total : (lo : ℕ) → lo < hi .0 → i ≡ endingBy lo (readRegions n l)
       → total (after (change (Fill tag)) lo (hi .0) (at (readRegions n l))) top ≡ total (at (readRegions n l)) top + (hi .0 - lo)
   filled-total lo h e =
-      rw (halves l n i w k) at (fill-total tag lo (hi .0) top (take i (readRegions n l)) (drop i (readRegions n l)) (whole l n i w k) h (rw e (ending-reach lo 0 (readRegions n l) (omega arith))) free t)
+      rw (take-append-drop i (readRegions n l)) at (fill-total tag lo (hi .0) top (take i (readRegions n l)) (drop i (readRegions n l)) (parts-rise l n i w k) h (rw e (ending-reach lo 0 (readRegions n l) (omega arith))) free t)
 
   -- nothing above joins
   as-is : Rises (hi .0) (Present tag) top (drop i (readRegions n l)) → JoinedAbove (readRegions n l) i (hi .0) tag (record { at = i; bound = hi })
@@ -161,7 +161,7 @@ module _ (l : List ℕ) (n i : ℕ) (hi : Address) (tag : Tag) (w : Table l n) (
         most = omega (arith, read-regions-length n l);
         high = omega arith;
         small = t;
-        filled = λ lo h e. rw (halves l n i w k) at (fill-apart tag lo (hi .0) top (take i (readRegions n l)) (drop i (readRegions n l)) (whole l n i w k) h (rw e (ending-reach lo 0 (readRegions n l) (omega arith))) free u);
+        filled = λ lo h e. rw (take-append-drop i (readRegions n l)) at (fill-apart tag lo (hi .0) top (take i (readRegions n l)) (drop i (readRegions n l)) (parts-rise l n i w k) h (rw e (ending-reach lo 0 (readRegions n l) (omega arith))) free u);
       }
 
   pub over-end : n ≤ i → JoinedAbove (readRegions n l) i (hi .0) tag (record { at = i; bound = hi })
@@ -170,7 +170,7 @@ module _ (l : List ℕ) (n i : ℕ) (hi : Address) (tag : Tag) (w : Table l n) (
   module _ (h : i < n) (r : Region) (here : r ≡ readRegion (drop (24 * i) l)) where
     apart : (hi .0 ≡ r .base .0 → Present tag ≡ Present (r .tag) → ⊥) → JoinedAbove (readRegions n l) i (hi .0) tag (record { at = i; bound = hi })
     unfolding starts
-    apart d = as-is (rw (rest l n i w k h r here) (go (behind l n i w k h r here) (rw (rest l n i w k h r here) at free)))
+    apart d = as-is (rw (rest-begins l n i w k h r here) (go (rest-rises l n i w k h r here) (rw (rest-begins l n i w k h r here) at free)))
       where
         go : Rises (reach 0 (take i (readRegions n l))) (edge Absent (take i (readRegions n l))) top (r ∷ drop (i + 1) (readRegions n l))
             → hi .0 ≤ starts top (r ∷ drop (i + 1) (readRegions n l)) → Rises (hi .0) (Present tag) top (r ∷ drop (i + 1) (readRegions n l))
@@ -190,22 +190,22 @@ module _ (l : List ℕ) (n i : ℕ) (hi : Address) (tag : Tag) (w : Table l n) (
         absurd (zero-not-one cc))
 
     pub over-past : (x : CheckedAddress) → x ≡ address (end r) → x ≡ Outside → (s : Side) → JoinedAbove (readRegions n l) i (hi .0) tag s
-    over-past x q e s = absurd (omega (arith, past l n i w k h r here, top-is, address-outside (end r) x q e))
+    over-past x q e s = absurd (omega (arith, ends-by-top l n i w k h r here, top-is, address-outside (end r) x q e))
 
     pub over-grown : r .base .0 ≡ hi .0 → (b : Bool) → b ≡ sameTag (r .tag) tag → not b ≡ false → (x : CheckedAddress) → x ≡ address (end r) → (o : Address) → x ≡ At o
         → JoinedAbove (readRegions n l) i (hi .0) tag (record { at = i + 1; bound = o })
     over-grown eb b q e x p o f =
         let g = same-true (r .tag) tag (sym q ∙ not-false b e) in
         let m : o .0 ≡ end r = address-at (end r) x o p f .0 in
-        let v : take i (readRegions n l) ++ (r ∷ drop (i + 1) (readRegions n l)) ≡ readRegions n l = rw (← rest l n i w k h r here) (halves l n i w k) in
+        let v : take i (readRegions n l) ++ (r ∷ drop (i + 1) (readRegions n l)) ≡ readRegions n l = rw (← rest-begins l n i w k h r here) (take-append-drop i (readRegions n l)) in
         record {
           least = omega arith;
           most = omega (arith, read-regions-length n l);
           high = omega arith;
-          small = omega (arith, past l n i w k h r here);
+          small = omega (arith, ends-by-top l n i w k h r here);
           filled = λ lo j c.
               let d : hi .0 - lo + r .size .0 ≡ o .0 - lo = omega arith in
-              rw (v, d) at (fill-meets tag lo (hi .0) top (take i (readRegions n l)) (drop (i + 1) (readRegions n l)) r (rw (rest l n i w k h r here) at (whole l n i w k)) j (rw c (ending-reach lo 0 (readRegions n l) (omega arith))) eb g);
+              rw (v, d) at (fill-meets tag lo (hi .0) top (take i (readRegions n l)) (drop (i + 1) (readRegions n l)) r (rw (rest-begins l n i w k h r here) at (parts-rise l n i w k)) j (rw c (ending-reach lo 0 (readRegions n l) (omega arith))) eb g);
         }
 
 -- ---- one record for both sides

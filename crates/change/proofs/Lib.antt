@@ -4,3 +4,4 @@ pub mod Meeting
 pub mod Parts
 pub mod Rebuilding
 pub mod Splicing
+pub mod Tagged

@@ -10,38 +10,35 @@ use Rattle.regions.specs.Meaning.{end, top}
 use Rattle.regions.specs.Bytes.{readRegion, readRegions}
 use Rattle.regions.proofs.Rises.{Rises, next, Canonical, reach, edge, rises-Rises}
 use Rattle.regions.proofs.RoundTrip.{rises-end}
-use Rattle.regions.proofs.Prefix.{rest-rises}
+use Rattle.regions.proofs.Prefix as prefix
 use Rattle.regions.proofs.Records.{read-regions-rest, read-regions-end}
 use Rattle.records.specs.Steps.{Table}
 use Rattle.records.proofs.Placing.{drop-read}
 
 module _ (l : List ℕ) (n i : ℕ) (w : Table l n) (k : i ≤ n) where
-  pub halves : take i (readRegions n l) ++ drop i (readRegions n l) ≡ readRegions n l
-  halves = take-append-drop i (readRegions n l)
-
-  pub whole : Canonical top (take i (readRegions n l) ++ drop i (readRegions n l))
-  whole = rw halves (rises-Rises 0 Absent top (readRegions n l) (w .rising))
+  pub parts-rise : Canonical top (take i (readRegions n l) ++ drop i (readRegions n l))
+  parts-rise = rw (take-append-drop i (readRegions n l)) (rises-Rises 0 Absent top (readRegions n l) (w .rising))
 
   pub none-left : n ≤ i → drop i (readRegions n l) ≡ []
   none-left h = drop-read i n l k ∙ read-regions-end i n (drop (24 * i) l) h
 
   -- the record at the place
   module _ (h : i < n) (r : Region) (here : r ≡ readRegion (drop (24 * i) l)) where
-    pub rest : drop i (readRegions n l) ≡ r ∷ drop (i + 1) (readRegions n l)
-    rest =
+    pub rest-begins : drop i (readRegions n l) ≡ r ∷ drop (i + 1) (readRegions n l)
+    rest-begins =
         let j : i + 1 ≤ n = omega arith in
         drop-read i n l k ∙ read-regions-rest i n l h ∙ rw (← here, drop-read (i + 1) n l j)
 
-    pub behind : Rises (reach 0 (take i (readRegions n l))) (edge Absent (take i (readRegions n l))) top (r ∷ drop (i + 1) (readRegions n l))
-    behind = rw rest at (rest-rises (take i (readRegions n l)) (drop i (readRegions n l)) whole)
+    pub rest-rises : Rises (reach 0 (take i (readRegions n l))) (edge Absent (take i (readRegions n l))) top (r ∷ drop (i + 1) (readRegions n l))
+    rest-rises = rw rest-begins at (prefix.rest-rises (take i (readRegions n l)) (drop i (readRegions n l)) parts-rise)
 
     -- those behind it begin past its end, or there with another tag
-    pub above : Rises (end r) (Present (r .tag)) top (drop (i + 1) (readRegions n l))
-    above = go behind
+    pub behind-rises : Rises (end r) (Present (r .tag)) top (drop (i + 1) (readRegions n l))
+    behind-rises = go rest-rises
       where
         go : Rises (reach 0 (take i (readRegions n l))) (edge Absent (take i (readRegions n l))) top (r ∷ drop (i + 1) (readRegions n l))
             → Rises (end r) (Present (r .tag)) top (drop (i + 1) (readRegions n l))
         go (next j v) = v
 
-    pub past : end r ≤ top
-    past = rises-end above
+    pub ends-by-top : end r ≤ top
+    ends-by-top = rises-end behind-rises

@@ -1,7 +1,7 @@
 -- A change builds only the records met anew, in a scratch table; where it leaves few of them a small one is enough. Assumes nothing.
 use Prim.Native.Nat.{ℕ, zero, suc, _+_, _*_, _-_, _/_, _≤_, _<_}
 use mathlib.Core.Path.{_≡_, refl, sym, ap, _∙_}
-use mathlib.Core.Bool.{Bool, true, false, cond}
+use mathlib.Core.Bool.{true}
 use mathlib.Core.List.{List, [], _∷_, _++_}
 use mathlib.Core.Logic.{_⊎_, inl, inr}
 use native.Mathlib.Omega.{arith}
@@ -13,7 +13,7 @@ use Rattle.regions.specs.declared.State.the-variants.{Absent, Present}
 use Rattle.regions.specs.declared.Tag.{Tag}
 use Rattle.regions.specs.declared.Change.{Change}
 use Rattle.regions.specs.declared.Change.the-variants.{Fill, Clear, Mark, Unmark}
-use Rattle.regions.specs.Meaning.{end, inside, at, top}
+use Rattle.regions.specs.Meaning.{at, top}
 use Rattle.regions.specs.Lists.{rises}
 use Rattle.regions.specs.Changes.{change, after}
 use Rattle.regions.specs.Bytes.{readRegions}
@@ -37,6 +37,7 @@ use Rattle.records.proofs.Placing.{ending-reach}
 use Rattle.lists.proofs.Pushing.{holds-count, holds-list, holds-full}
 use Rattle.lists.proofs.Walking.{flags-bounded-drop}
 use Rattle.change.proofs.Meeting.{starting-rest, starting-above, ending-starting, ending-ends, ends-take, starting-begins, begins-le}
+use Rattle.change.proofs.Tagged.{tagged-take, tagged-drop, filled-at}
 use Rattle.change.proofs.Splicing.{mid, apart, mid-read, part-room, part-rises, split-rises, mid-rises}
 
 -- ---- parts of a list
@@ -47,26 +48,6 @@ flags-bounded-take (suc i) [] h = tt
 flags-bounded-take (suc i) (r ∷ rs) h = (h .0, flags-bounded-take i rs (h .1))
 
 -- ---- few are left
-
-tagged-take : (t : Tag) (i : ℕ) (xs : List Region) → AllTagged t xs → AllTagged t (take i xs)
-tagged-take t zero xs h = tt
-tagged-take t (suc i) [] h = tt
-tagged-take t (suc i) (r ∷ rs) h = (h .0, tagged-take t i rs (h .1))
-
-tagged-drop : (t : Tag) (i : ℕ) (xs : List Region) → AllTagged t xs → AllTagged t (drop i xs)
-tagged-drop t zero xs h = h
-tagged-drop t (suc i) [] h = tt
-tagged-drop t (suc i) (r ∷ rs) h = tagged-drop t i rs (h .1)
-
--- a list of one tag, filled with it
-filled-at : (t : Tag) (xs : List Region) (a : ℕ) → AllTagged t xs → change (Fill t) (at xs a) ≡ Present t
-unfolding at change
-filled-at t [] a h = refl
-filled-at t (r ∷ rs) a h = go (inside (r .base .0) (end r) a) (filled-at t rs a (h .1))
-  where
-    go : (b : Bool) → change (Fill t) (at rs a) ≡ Present t → change (Fill t) (cond b (Present (r .tag)) (at rs a)) ≡ Present t
-    go true ih = ap Present (h .0)
-    go false ih = ih
 
 -- a list of one tag that is filled with it, and any that is cleared, get one state everywhere
 uniform-at : (c : Change) (xs ys : List Region) → Uniform c ys → ((t : Tag) → AllTagged t ys → AllTagged t xs) → (v : State) × ((a : ℕ) → change c (at xs a) ≡ v)

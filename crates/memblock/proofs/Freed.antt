@@ -19,9 +19,10 @@ use Rattle.tables.specs.declared.commands.Verb.the-variants.{Free}
 use Rattle.tables.specs.Commands.{Command, command}
 use Rattle.fits.specs.declared.Query.{Query}
 use Rattle.search.specs.DemandTwo.{freeIn, Eligible}
+use Rattle.tables.proofs.Answered.{Refuses}
 use Rattle.memblock.specs.Calls.{outcomeOf}
 use Rattle.memblock.specs.Freed.{FreedSentence}
-use Rattle.memblock.proofs.Steps.{Made, Refused, Done, made, step}
+use Rattle.memblock.proofs.Steps.{Made, Done, made, step}
 
 module _ (b : List ℕ) (g : good current b ≡ true) (base size : ℕ) (d : outcomeOf (command Free base size) b .number ≡ 0) where
   abbrev freeing : Command
@@ -30,7 +31,7 @@ module _ (b : List ℕ) (g : good current b ≡ true) (base size : ℕ) (d : out
   pub freed : Made freeing b (outcomeOf freeing b .block)
   freed = go (step freeing b g)
     where
-      go : Refused freeing b ⊎ Done freeing b → Made freeing b (outcomeOf freeing b .block)
+      go : Refuses current freeing b ⊎ Done freeing b → Made freeing b (outcomeOf freeing b .block)
       go (inl r) = absurd (clash (eqb (outcomeOf freeing b .number) 0) (eq-eqb _ 0 d) (r .number))
       go (inr r) = r .block
 

@@ -1,6 +1,6 @@
 -- Whatever the call and the bytes: a refusal leaves all as it was and a slip zero, and a call that is done leaves a good block. Assumes nothing.
 use Prim.Native.Nat.{ℕ}
-use mathlib.Core.Path.{_≡_, refl, sym, ap, _∙_}
+use mathlib.Core.Path.{_≡_, refl, ap, _∙_}
 use mathlib.Core.Bool.{Bool, true, false, cond, _&&_}
 use mathlib.Core.List.{List, []}
 use mathlib.Core.Logic.{_⊎_, inl, inr}
@@ -76,11 +76,7 @@ module _ (b : List ℕ) where
   command-fair c = go (refuses-or-stores current c b)
     where
       go : Refuses current c b ⊎ Stores current c b → FairOutcome b (commandOutcome current c b)
-      go (inl r) =
-          record {
-            keeps = λ d. ap (λ (o : Outcome). o .block) (r .is);
-            isGood = λ z. absurd (clash (eqb (r .number) 0) (eq-eqb (r .number) 0 (sym (ap (λ (o : Outcome). o .number) (r .is)) ∙ z)) (r .some));
-          }
+      go (inl r) = record { keeps = λ d. r .block; isGood = λ z. absurd (clash _ (eq-eqb _ 0 z) (r .number)) }
       go (inr s) = record { keeps = λ d. absurd (d (ap (λ (o : Outcome). o .number) (s .is))); isGood = λ z. command-good b (s .isGood) c }
 
   trim-fair : (align : ℕ) → FairOutcome b (trim current align b)

@@ -9,9 +9,10 @@ use Rattle.regions.specs.declared.State.{State}
 use Rattle.regions.specs.Meaning.{at}
 use Rattle.block.specs.Block.{current, listOf, contents, good}
 use Rattle.tables.specs.Commands.{Command}
+use Rattle.tables.proofs.Answered.{Refuses}
 use Rattle.memblock.specs.Calls.{outcomeOf}
 use Rattle.memblock.specs.Lists.{run, done}
-use Rattle.memblock.proofs.Steps.{Refused, Done, step}
+use Rattle.memblock.proofs.Steps.{Done, step}
 use Rattle.memblock.proofs.Agreeing.{through}
 
 -- e is a good block with the settings of b that says what the commands ds make of each address of b
@@ -25,7 +26,7 @@ unfolding run done through
 ran [] b g = record { isGood = g; settings = refl; says = λ k a. refl }
 ran (c ∷ cs) b g = go (step c b g) (λ e h. ran cs e h)
   where
-    go : Refused c b ⊎ Done c b → ((e : List ℕ) → good current e ≡ true → Ran (done cs e) e (run cs e)) → Ran (done (c ∷ cs) b) b (run (c ∷ cs) b)
+    go : Refuses current c b ⊎ Done c b → ((e : List ℕ) → good current e ≡ true → Ran (done cs e) e (run cs e)) → Ran (done (c ∷ cs) b) b (run (c ∷ cs) b)
     go (inl r) ih = rw (r .number, r .block) (ih b g)
     go (inr r) ih =
         let e : List ℕ = outcomeOf c b .block in

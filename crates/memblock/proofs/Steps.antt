@@ -15,7 +15,7 @@ use Rattle.regions.specs.Lists.{goodList}
 use Rattle.regions.specs.Changes.{change, after, cut, changed}
 use Rattle.regions.proofs.Legal.{changed-at}
 use Rattle.block.specs.Block.{current, Contents, listOf, withList, blockBytes, contents, good}
-use Rattle.range.specs.Outcomes.{Outcome, outcome}
+use Rattle.range.specs.Outcomes.{Outcome}
 use Rattle.tables.specs.Commands.{Command, table, changeOf}
 use Rattle.tables.specs.DemandTwo.{finished}
 use Rattle.tables.proofs.Answered.{Refuses, Stores, refuses-or-stores}
@@ -47,10 +47,6 @@ pub record Made (d : Command) (b e : List ℕ) : Type 0 where
   pub isGood : good current e ≡ true
   pub settings : contents current e .settings ≡ contents current b .settings
   pub says : (k : Kind) (a : ℕ) → at (listOf (contents current e) k) a ≡ made d k a (at (listOf (contents current b) k) a)
-
-pub record Refused (d : Command) (b : List ℕ) : Type 0 where
-  pub number : eqb (outcomeOf d b .number) 0 ≡ false
-  pub block : outcomeOf d b .block ≡ b
 
 pub record Done (d : Command) (b : List ℕ) : Type 0 where
   pub number : eqb (outcomeOf d b .number) 0 ≡ true
@@ -84,14 +80,11 @@ module _ (d : Command) (b : List ℕ) (g : good current b ≡ true) where
             ∙ with-at j k s (changeOf (d .verb)) (d .base) (d .size) a (lists-ok current s (good-contents current b g) j);
       }
 
-  refused : (n : ℕ) → eqb n 0 ≡ false → outcomeOf d b ≡ outcome n b → Refused d b
-  refused n z e = record { number = ap (λ (o : Outcome). eqb (o .number) 0) e ∙ z; block = ap (λ (o : Outcome). o .block) e }
-
-  pub step : Refused d b ⊎ Done d b
+  pub step : Refuses current d b ⊎ Done d b
   step = go (refuses-or-stores current d b)
     where
-      go : Refuses current d b ⊎ Stores current d b → Refused d b ⊎ Done d b
-      go (inl r) = inl (refused (r .number) (r .some) (r .is))
+      go : Refuses current d b ⊎ Stores current d b → Refuses current d b ⊎ Done d b
+      go (inl r) = inl r
       go (inr o) =
           let m : Made d b (blockBytes current (withList (contents current b) (table (d .verb)) (finished current d b))) =
           kept-made _ (change-kept current small-current b g (table (d .verb)) (changeOf (d .verb)) (d .base) (d .size) (verb-keeps (d .verb) (o .legal)) (o .room)) in

@@ -1,7 +1,7 @@
 -- Every address of a range is present, or one of them is absent. Assumes nothing.
 use Prim.Native.Nat.{ℕ, zero, suc, _+_, _-_, _≤_, _<_}
 use mathlib.Core.Path.{_≡_, refl}
-use mathlib.Core.Bool.{Bool, true, false, _&&_}
+use mathlib.Core.Bool.{Bool, true, false, _&&_, and-false}
 use mathlib.Core.List.{List}
 use mathlib.Core.Logic.{_⊎_, inl, inr}
 use native.Mathlib.Omega.{arith}
@@ -26,15 +26,11 @@ module _ (f : Meaning) (a : ℕ) where
   absent-not-all (suc n) w =
       go (le-or-lt (a + n) (w .address)) (λ i. absent-not-all n (record { address = w .address; low = w .low; high = i; absent = w .absent }))
     where
-      rest : (t : Bool) → allPresent f a n ≡ false → t && allPresent f a n ≡ false
-      rest true e = e
-      rest false e = refl
-
       go : (a + n ≤ w .address) ⊎ (w .address < a + n) → (w .address < a + n → allPresent f a n ≡ false) → present (f (a + n)) && allPresent f a n ≡ false
       go (inl i) ih =
           let e : a + n ≡ w .address = omega (arith, w .high) in
           rw (e, w .absent)
-      go (inr i) ih = rest (present (f (a + n))) (ih i)
+      go (inr i) ih = rw (ih i, and-false)
 
   pub not-all-absent : (n : ℕ) → allPresent f a n ≡ false → AbsentIn f a n
   unfolding allPresent

@@ -104,7 +104,7 @@ module _ (lo hi : ℕ) where
 
   -- ---- in rising order
 
-  -- where the regions before it end: below lo, or at or above hi
+  -- what is left of the regions from c on begins at d or above: d is at or below lo, or, where c is past lo, at or below hi
   abbrev Before : ℕ → ℕ → Type 0
   Before d c = (d ≤ min c lo) ⊎ ((lo ≤ c) × (d ≤ max c hi))
 

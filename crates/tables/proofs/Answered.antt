@@ -45,9 +45,8 @@ number-is e h = sym (ap (λ (o : Outcome). o .number) e) ∙ h
 -- ---- refused, or the finished list stored
 
 pub record Refuses (L : Layout) (c : Command) (b : List ℕ) : Type 0 where
-  pub number : ℕ
-  pub some : eqb number 0 ≡ false
-  pub is : commandOutcome L c b ≡ outcome number b
+  pub number : eqb (commandOutcome L c b .number) 0 ≡ false
+  pub block : commandOutcome L c b .block ≡ b
 
 pub record Stores (L : Layout) (c : Command) (b : List ℕ) : Type 0 where
   pub isGood : good L b ≡ true
@@ -58,9 +57,12 @@ pub record Stores (L : Layout) (c : Command) (b : List ℕ) : Type 0 where
 pub refuses-or-stores : (L : Layout) (c : Command) (b : List ℕ) → Refuses L c b ⊎ Stores L c b
 refuses-or-stores L c b = go (answered L c b)
   where
+    refuses : (n : ℕ) → eqb n 0 ≡ false → commandOutcome L c b ≡ outcome n b → Refuses L c b
+    refuses n z e = record { number = ap (λ (o : Outcome). eqb (o .number) 0) e ∙ z; block = ap (λ (o : Outcome). o .block) e }
+
     go : Answered L c b → Refuses L c b ⊎ Stores L c b
-    go (notGood g e) = inl (record { number = 1; some = refl; is = e })
-    go (notLegal g l e) = inl (record { number = 2; some = refl; is = e })
-    go (notAllowed g l a e) = inl (record { number = 12; some = refl; is = e })
-    go (noRoom g l a m e) = inl (record { number = 6; some = refl; is = e })
+    go (notGood g e) = inl (refuses 1 refl e)
+    go (notLegal g l e) = inl (refuses 2 refl e)
+    go (notAllowed g l a e) = inl (refuses 12 refl e)
+    go (noRoom g l a m e) = inl (refuses 6 refl e)
     go (done g l a m e) = inr (record { isGood = g; legal = l; room = m; is = e })

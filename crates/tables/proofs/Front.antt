@@ -38,7 +38,7 @@ module _ (b : List ℕ) (g : good current b ≡ true) where
   command-front c m = go (refuses-or-stores current c b)
     where
       go : Refuses current c b ⊎ Stores current c b → drop (offset current Taken) (commandOutcome current c b .block) ≡ drop (offset current Taken) b
-      go (inl r) = ap (λ (o : Outcome). drop (offset current Taken) (o .block)) (r .is)
+      go (inl r) = ap (drop (offset current Taken)) (r .block)
       go (inr d) =
           let l = leb-true (length (finished current c b)) (capacity current (table (c .verb))) (d .room) in
           ap (λ (o : Outcome). drop (offset current Taken) (o .block)) (d .is)

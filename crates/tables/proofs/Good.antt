@@ -40,7 +40,7 @@ module _ (b : List ℕ) (g : good current b ≡ true) where
     command-good = go (refuses-or-stores current c b)
       where
         go : Refuses current c b ⊎ Stores current c b → good current (commandOutcome current c b .block) ≡ true
-        go (inl r) = ap (λ (o : Outcome). good current (o .block)) (r .is) ∙ g
+        go (inl r) = ap (good current) (r .block) ∙ g
         go (inr d) =
             ap (λ (o : Outcome). good current (o .block)) (d .is)
             ∙ change-kept current small-current b g (table (c .verb)) (changeOf (c .verb)) (c .base) (c .size) (verb-keeps (c .verb) (d .legal)) (d .room) .isGood

@@ -40,8 +40,8 @@ module _ (L : Layout) (c : Command) (b : List ℕ) where
           record { isGood = g; free = e; address = w .address; low = w .low; high = omega (arith, w .low, w .high); not-taken = w .absent }
 
   -- and a free of what is not taken is not allowed
-  taken-not : NotTaken L c b → allows c (listOf (contents L b) (table (c .verb))) ≡ false
-  taken-not w =
+  untaken-not-allowed : NotTaken L c b → allows c (listOf (contents L b) (table (c .verb))) ≡ false
+  untaken-not-allowed w =
       let u : AbsentIn (at (contents L b .taken)) (c .base) (cut (c .base) (c .size) - c .base) =
       record { address = w .address; low = w .low; high = omega (arith, w .low, w .high); absent = w .not-taken } in
       rw (w .free) (absent-not-all (at (contents L b .taken)) (c .base) (cut (c .base) (c .size) - c .base) u)
@@ -56,8 +56,8 @@ module _ (L : Layout) (c : Command) (b : List ℕ) where
       go (notGood g e) = absurd (clash (good L b) (w .isGood) g)
       go (notLegal g l e) = absurd (clash (legalVerb (c .verb)) legal l)
       go (notAllowed g l a e) = e
-      go (noRoom g l a m e) = absurd (clash _ a (taken-not w))
-      go (done g l a m e) = absurd (clash _ a (taken-not w))
+      go (noRoom g l a m e) = absurd (clash _ a (untaken-not-allowed w))
+      go (done g l a m e) = absurd (clash _ a (untaken-not-allowed w))
 
   only : commandOutcome L c b .number ≡ 12 → NotTaken L c b
   only h = go (answered L c b)

@@ -83,7 +83,7 @@ strict (Unmark w) = false
 strict Reserve = false
 strict Free = true
 
--- the range of a command after the cut at the top may be changed in a list of its table
+-- a command may change its range, after the cut at the top, in the list of its table
 abbrev pub allows : Command → List Region → Bool
 allows c xs = allowed (strict (c .verb)) (c .base) (cut (c .base) (c .size)) xs
 

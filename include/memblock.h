@@ -27,7 +27,7 @@
 extern "C" {
 #endif
 
-/* Numbers answered. Checked in the order 8, 1, 10, 2, 3, 4, 7, 12, 5, 6; the first that holds is given. */
+/* Numbers answered. Checked in the order 8, 1, 10, 11, 2, 3, 4, 7, 12, 5, 6; the first that holds is given. */
 #define MEMBLOCK_DONE 0
 #define MEMBLOCK_BAD_BLOCK 1     /* the block is not good (fresh, convert: not MEMBLOCK_BLOCK_LENGTH bytes; convert: or old is not good) */
 #define MEMBLOCK_BAD_TAG 2       /* add: flags above 7 or node above 63; mark, unmark: not one flag; searches: node above 63 and not any,
@@ -39,6 +39,7 @@ extern "C" {
 #define MEMBLOCK_BAD_DIRECTION 7 /* set: above 1 */
 #define MEMBLOCK_BAD_SLIP 8      /* the slip is not MEMBLOCK_SLIP_LENGTH bytes */
 #define MEMBLOCK_BAD_REPORT 10   /* the report is not whole entries, or more than MEMBLOCK_REPORT_ENTRIES */
+#define MEMBLOCK_BAD_TREE 11     /* the tree is not of the form, or has not the values, that memblock_intake_tree names */
 #define MEMBLOCK_NOT_TAKEN 12    /* free: not every address of the range is taken */
 
 /* Directions of a search. */
@@ -80,6 +81,22 @@ extern "C" {
 #define MEMBLOCK_REPORT_KIND_AT 16  /* u32 */
 #define MEMBLOCK_REPORT_USABLE 1    /* the kind that is added; all other numbers are passed over */
 #define MEMBLOCK_REPORT_TRIM 4096   /* memory is trimmed by this at the end */
+
+/* A flattened device tree: big-endian, offsets within its header, u32 each. */
+#define MEMBLOCK_TREE_MAGIC UINT32_C(0xD00DFEED)
+#define MEMBLOCK_TREE_VERSION 17    /* the version that is read, no other */
+#define MEMBLOCK_TREE_COMPATIBLE 16 /* the last compatible version that is read, no other */
+#define MEMBLOCK_TREE_DEPTH 16      /* the deepest level of a node, the root's being 1 */
+#define MEMBLOCK_TREE_HEADER_LENGTH 40
+#define MEMBLOCK_TREE_MAGIC_AT 0
+#define MEMBLOCK_TREE_TOTAL_SIZE_AT 4
+#define MEMBLOCK_TREE_STRUCTURE_AT 8 /* the structure block's offset, a multiple of 4 */
+#define MEMBLOCK_TREE_STRINGS_AT 12  /* the strings block's offset */
+#define MEMBLOCK_TREE_LIST_AT 16     /* the reservation list's offset, a multiple of 8 */
+#define MEMBLOCK_TREE_VERSION_AT 20
+#define MEMBLOCK_TREE_COMPATIBLE_AT 24
+#define MEMBLOCK_TREE_STRINGS_LENGTH_AT 32
+#define MEMBLOCK_TREE_STRUCTURE_LENGTH_AT 36
 
 /* The block, little-endian. Read it freely; whatever writes it besides these functions must leave a good block, or the next call
  * refuses it with 1. */
@@ -129,8 +146,8 @@ extern "C" {
 #define MEMBLOCK_STACK_SET_IMAGE_END 320
 #define MEMBLOCK_STACK_ADD 3776
 #define MEMBLOCK_STACK_REMOVE 3776
-#define MEMBLOCK_STACK_MARK 3712
-#define MEMBLOCK_STACK_UNMARK 3712
+#define MEMBLOCK_STACK_MARK 3776
+#define MEMBLOCK_STACK_UNMARK 3776
 #define MEMBLOCK_STACK_RESERVE 3776
 #define MEMBLOCK_STACK_FREE 3776
 #define MEMBLOCK_STACK_TRIM 320
@@ -138,8 +155,9 @@ extern "C" {
 #define MEMBLOCK_STACK_FIND 576
 #define MEMBLOCK_STACK_ALLOCATE 576
 #define MEMBLOCK_STACK_INTAKE_E820 6912
+#define MEMBLOCK_STACK_INTAKE_TREE 19968
 #define MEMBLOCK_STACK_CONVERT 320
-#define MEMBLOCK_STACK 6912 /* the most of these */
+#define MEMBLOCK_STACK 19968 /* the most of these */
 
 /* Writes a fresh block over any MEMBLOCK_BLOCK_LENGTH bytes: both tables empty, no limit, top-down, no image. Answers 0 or 1. */
 uint32_t memblock_fresh(uint8_t *block, size_t length);
@@ -206,6 +224,22 @@ uint32_t memblock_allocate(uint8_t *block, size_t length, uint64_t size, uint64_
  * if the trimmed list would fit, and nothing of the report is in the block. An empty report only trims. The report is not written.
  * The same entries in another order, neither refused, leave the same block. Answers 0, 1, 10 or 6. */
 uint32_t memblock_intake_e820(uint8_t *block, size_t length, const uint8_t *report, size_t report_length);
+
+/* Takes a flattened device tree in, of any bytes: as by add with flags 0, the ranges of reg of the root's children whose device_type is
+ * "memory" and its zero, with their numa-node-id, or 0 where there is none; as by reserve, the pairs of the reservation list, then the
+ * ranges of the children of every /reserved-memory, a child of the root of just that name; as by mark, no-map, the ranges of those of
+ * these children that have no-map, whatever its value, in the place of being reserved. In this order, each in that of the tree; nothing
+ * is trimmed. The root's #address-cells and #size-cells say how many words an address and a size have, 2 and 1 where there are none; those
+ * of other nodes are not looked at. Of properties of one name in a node the first counts. The first range that its command would refuse
+ * with 6 ends the intake with 6, and nothing of the tree is in the block.
+ *
+ * 11 where one of these fails: a whole header, with its magic, version and compatible version; header, list, structure block and strings
+ * block each inside the total size and the lent bytes, list and structure block at their alignment; the list ended by two zeros inside;
+ * in the structure block one root, the end token, and nothing after it, nop tokens anywhere before it; in each node properties before
+ * nodes; each name ended by a zero inside its block, and each value inside; no node deeper than MEMBLOCK_TREE_DEPTH; the root's cells 1
+ * or 2, 4 bytes each; each reg so used whole entries; each numa-node-id of memory 4 bytes and below MEMBLOCK_NODES. Padding may be any
+ * bytes, parts may overlap, and the total size may be above the lent length. The tree is not written. Answers 0, 1, 11 or 6. */
+uint32_t memblock_intake_tree(uint8_t *block, size_t length, const uint8_t *board, size_t board_length);
 
 #ifdef __cplusplus
 }

@@ -11,7 +11,7 @@
 use std::path::{Path, PathBuf};
 use std::process::Command;
 
-const FUNCTIONS: [&str; 14] = [
+const FUNCTIONS: [&str; 15] = [
     "memblock_fresh",
     "memblock_set",
     SET_IMAGE_END,
@@ -26,10 +26,14 @@ const FUNCTIONS: [&str; 14] = [
     "memblock_find",
     "memblock_allocate",
     "memblock_intake_e820",
+    INTAKE_TREE,
 ];
 
 /// The function that an archive from before request E7 does not have.
 const SET_IMAGE_END: &str = "memblock_set_image_end";
+
+/// The function that an archive from before request E8 does not have.
+const INTAKE_TREE: &str = "memblock_intake_tree";
 
 /// Before the names of the functions of the archive that BENCH_BEFORE names.
 const BEFORE: &str = "before_";
@@ -55,6 +59,9 @@ fn main() {
     let mut text = std::fs::read_to_string(library).expect("it stands beside build.rs");
     if !defines(&before, SET_IMAGE_END) {
         text = without_image_end(&text);
+    }
+    if !defines(&before, INTAKE_TREE) {
+        text = without_tree(&text);
     }
     let text = text
         .replace("memblock_", &format!("{BEFORE}memblock_"))
@@ -91,6 +98,21 @@ fn without_image_end(text: &str) -> String {
         &format!("{SET_IMAGE_END}(b, n, end)"),
         "unreachable!(\"no function for an image end of {end}\")",
     )
+}
+
+/// The text without the function that takes a tree in: nothing calls it.
+fn without_tree(text: &str) -> String {
+    text.replace(
+        &format!(
+            "fn {INTAKE_TREE}(block: *mut u8, len: usize, board: *const u8, board_len: usize) -> u32;"
+        ),
+        "",
+    )
+    .replace(
+        &format!("{INTAKE_TREE}(b, n, board.as_ptr(), board.len())"),
+        "unreachable!(\"no function for a tree of {} bytes\", board.len())",
+    )
+    .replace("TREES: bool = true", "TREES: bool = false")
 }
 
 /// Whether an archive defines a function.

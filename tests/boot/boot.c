@@ -1,8 +1,8 @@
-/* A boot: the machine's memory map taken in as an E820 report, what is in use reserved, memory marked, allocations in both directions,
- * bottom-up above the image and the other way, each kind of refusal.
+/* A boot: the machine's memory map taken in as an E820 report and as a flattened tree, what is in use reserved, memory marked,
+ * allocations in both directions, bottom-up above the image and the other way, each kind of refusal.
  *
  * Writes a line for each call, with its numbers, the number answered, a sum over the block's bytes and the slip, or a sum over the
- * bytes of the report or of the old block; at the end both tables. tests/transcript replays the lines on the second program. Runs
+ * bytes of the report, the tree or the old block; at the end both tables. tests/transcript replays the lines on the second program. Runs
  * freestanding and hosted. */
 #include "boot.h"
 #include "memblock.h"
@@ -32,12 +32,19 @@ struct lent {
 static struct lent block = {"block", {0}};
 static struct lent mirror = {"mirror", {0}};
 static struct lent old = {"old", {0}};
+static struct lent by_tree = {"by_tree", {0}};
+static struct lent by_calls = {"by_calls", {0}};
 static uint8_t slip[MEMBLOCK_SLIP_LENGTH + GUARD];
 
 /* Room for one entry too many. */
 #define REPORT_MOST ((MEMBLOCK_REPORT_ENTRIES + 1) * MEMBLOCK_REPORT_ENTRY_LENGTH)
 static uint8_t report[REPORT_MOST + GUARD];
 static size_t report_length;
+
+/* A tree, and its length as it stands. */
+#define TREE_MOST KIB(32)
+static uint8_t tree[TREE_MOST + GUARD];
+static size_t tree_length;
 
 static const struct machine *machine;
 static uint64_t calls;
@@ -286,6 +293,18 @@ static uint32_t intake(struct lent *lent, size_t length)
     return number;
 }
 
+/* The first bytes of the tree as it stands. */
+static uint32_t intake_tree(struct lent *lent, size_t length)
+{
+    begin("intake_tree", lent, LENGTH);
+    named(", tree, ", length);
+    uint32_t number = memblock_intake_tree(lent->bytes, LENGTH, tree, length);
+    answered(lent, number);
+    named(" tree ", sum(tree, sizeof tree));
+    text("\n");
+    return number;
+}
+
 /* The first bytes of the old block as it stands. */
 static uint32_t convert(size_t old_length, struct lent *lent, size_t length)
 {
@@ -355,6 +374,171 @@ static void report_entry(uint64_t base, uint64_t size, uint32_t kind)
     named("entry base ", base);
     named(" size ", size);
     named(" kind ", kind);
+    text("\n");
+}
+
+/* A tree, put together from its front: header, reservation list, structure block, strings block. */
+
+enum token { BEGIN_NODE = 1, END_NODE = 2, PROPERTY = 3, NOP = 4, END = 9 };
+
+static const char tree_names[] = "#address-cells\0#size-cells\0device_type\0reg\0numa-node-id\0no-map";
+static size_t tree_structure_at;
+
+static void tree_byte(uint8_t byte)
+{
+    if (tree_length < TREE_MOST)
+        tree[tree_length++] = byte;
+}
+
+static void tree_number(size_t length, uint64_t number)
+{
+    while (length-- > 0)
+        tree_byte((uint8_t)(number >> 8 * length));
+}
+
+static void tree_word(uint64_t word)
+{
+    tree_number(4, word);
+}
+
+static void tree_field(size_t at, uint64_t word)
+{
+    for (size_t i = 0; i < 4; i++)
+        tree[at + i] = (uint8_t)(word >> 8 * (3 - i));
+}
+
+/* Padding may be any bytes. */
+static void tree_pad(void)
+{
+    while (tree_length % 4 != 0)
+        tree_byte((uint8_t)(0x80 + tree_length));
+}
+
+static void tree_begin(void)
+{
+    for (size_t i = 0; i < sizeof tree; i++)
+        tree[i] = FILL;
+    tree_length = 0;
+    while (tree_length < MEMBLOCK_TREE_HEADER_LENGTH)
+        tree_byte(0);
+}
+
+static void tree_pair(uint64_t base, uint64_t size)
+{
+    tree_number(8, base);
+    tree_number(8, size);
+}
+
+static void tree_node(const char *name)
+{
+    tree_word(BEGIN_NODE);
+    while (*name != 0)
+        tree_byte((uint8_t)*name++);
+    tree_byte(0);
+    tree_pad();
+}
+
+static void tree_node_end(void)
+{
+    tree_word(END_NODE);
+}
+
+static int same_name(const char *one, const char *other)
+{
+    while (*one != 0 && *one == *other)
+        one++, other++;
+    return *one == *other;
+}
+
+static void tree_property(const char *name, size_t length)
+{
+    size_t at = 0;
+    while (at < sizeof tree_names && !same_name(tree_names + at, name)) {
+        while (tree_names[at] != 0)
+            at++;
+        at++;
+    }
+    tree_word(PROPERTY);
+    tree_word(length);
+    tree_word(at);
+}
+
+static void tree_cell(const char *name, uint32_t value)
+{
+    tree_property(name, 4);
+    tree_word(value);
+}
+
+/* The list ends, and the root begins. */
+static void tree_root(uint32_t address_cells, uint32_t size_cells)
+{
+    tree_pair(0, 0);
+    tree_structure_at = tree_length;
+    tree_word(NOP);
+    tree_node("");
+    tree_cell("#address-cells", address_cells);
+    tree_cell("#size-cells", size_cells);
+}
+
+static void tree_memory(void)
+{
+    tree_node("memory");
+    tree_property("device_type", 7);
+    for (const char *type = "memory"; *type != 0; type++)
+        tree_byte((uint8_t)*type);
+    tree_byte(0);
+    tree_pad();
+}
+
+/* One range by cells 2 and 2. */
+static void tree_range(uint64_t base, uint64_t size)
+{
+    tree_property("reg", 16);
+    tree_pair(base, size);
+}
+
+/* Writes what the buffer holds into the transcript. */
+static void tree_show(void)
+{
+    named("tree ", FILL);
+    text("\n");
+    for (size_t at = 0; at < tree_length; at += 32) {
+        named("tree at ", at);
+        text(" ");
+        for (size_t i = at; i < at + 32 && i < tree_length; i++) {
+            char digits[2] = {"0123456789abcdef"[tree[i] >> 4], "0123456789abcdef"[tree[i] & 15]};
+            machine->write(digits, sizeof digits);
+        }
+        text("\n");
+    }
+}
+
+/* The root and the structure block end; the strings follow, and the header is written. */
+static void tree_end(void)
+{
+    tree_node_end();
+    tree_word(NOP);
+    tree_word(END);
+    size_t strings_at = tree_length;
+    for (size_t i = 0; i < sizeof tree_names; i++)
+        tree_byte((uint8_t)tree_names[i]);
+    tree_field(MEMBLOCK_TREE_MAGIC_AT, MEMBLOCK_TREE_MAGIC);
+    tree_field(MEMBLOCK_TREE_TOTAL_SIZE_AT, tree_length);
+    tree_field(MEMBLOCK_TREE_STRUCTURE_AT, tree_structure_at);
+    tree_field(MEMBLOCK_TREE_STRINGS_AT, strings_at);
+    tree_field(MEMBLOCK_TREE_LIST_AT, MEMBLOCK_TREE_HEADER_LENGTH);
+    tree_field(MEMBLOCK_TREE_VERSION_AT, MEMBLOCK_TREE_VERSION);
+    tree_field(MEMBLOCK_TREE_COMPATIBLE_AT, MEMBLOCK_TREE_COMPATIBLE);
+    tree_field(MEMBLOCK_TREE_STRINGS_LENGTH_AT, sizeof tree_names);
+    tree_field(MEMBLOCK_TREE_STRUCTURE_LENGTH_AT, strings_at - tree_structure_at);
+    tree_show();
+}
+
+static void poke_tree(size_t at, uint8_t byte)
+{
+    tree[at] = byte;
+    named("poke tree ", at);
+    named(" ", byte);
     text("\n");
 }
 
@@ -432,15 +616,23 @@ static void take_map(struct lent *lent, void (*take)(struct lent *lent, int back
     RESERVE(lent, 0xA0000, 0x60000); /* the legacy area below 1 MiB */
 }
 
-/* Whether the two blocks are equal. */
-static void compare(void)
+/* Whether two blocks are equal. */
+static void compare_two(const struct lent *one, const struct lent *other)
 {
     int same = 1;
     for (size_t i = 0; i < LENGTH; i++)
-        same = same && block.bytes[i] == mirror.bytes[i];
-    text("same block mirror ");
-    hex((uint64_t)same);
+        same = same && one->bytes[i] == other->bytes[i];
+    text("same ");
+    text(one->name);
+    text(" ");
+    text(other->name);
+    named(" ", (uint64_t)same);
     text("\n");
+}
+
+static void compare(void)
+{
+    compare_two(&block, &mirror);
 }
 
 /* The machine's report in the other order gives the same bytes, as one report and entry by entry. */
@@ -470,6 +662,100 @@ static void converted(void)
     poke(&old, MEMBLOCK_IMAGE_END_AT, 0);
     poke(&old, OLD_LENGTH - 1, 1);
     convert(OLD_LENGTH, &mirror, LENGTH);
+}
+
+/* The machine's map as a tree: the usable entries as memory, of node 1 those above 4 GiB; what is in use, and the first page of each
+ * usable entry, which is not mapped, under two /reserved-memory; the legacy area in the list, and an entry of size 0. Nodes to the
+ * deepest level besides. */
+static void map_as_tree(unsigned deepest)
+{
+    tree_begin();
+    tree_pair(0xA0000, 0x60000);
+    tree_pair(MIB(1), 0);
+    tree_root(2, 2);
+    for (unsigned level = 2; level <= deepest; level++)
+        tree_node("level");
+    for (unsigned level = 2; level <= deepest; level++)
+        tree_node_end();
+    tree_node("reserved-memory");
+    for (size_t i = 0; i < machine->map_count; i++)
+        if (machine->map[i].kind == MAP_USABLE) {
+            tree_node("first-page");
+            tree_property("no-map", 0);
+            tree_range(machine->map[i].base, PAGE);
+            tree_node_end();
+        }
+    tree_node_end();
+    for (size_t i = 0; i < machine->map_count; i++)
+        if (machine->map[i].kind == MAP_USABLE) {
+            tree_memory();
+            if (machine->map[i].base >= GIB(4))
+                tree_cell("numa-node-id", 1);
+            tree_range(machine->map[i].base, machine->map[i].size);
+            tree_node_end();
+        }
+    tree_node("reserved-memory");
+    for (size_t i = 0; i < machine->held_count; i++) {
+        tree_node("held");
+        tree_range(machine->held[i].base, machine->held[i].size);
+        tree_node_end();
+    }
+    tree_node_end();
+    tree_end();
+}
+
+/* The same by calls, in the order that the intake has. */
+static void map_by_calls(struct lent *lent)
+{
+    for (size_t i = 0; i < machine->map_count; i++)
+        if (machine->map[i].kind == MAP_USABLE)
+            add(lent, machine->map[i].base, machine->map[i].size, 0, machine->map[i].base >= GIB(4));
+    RESERVE(lent, 0xA0000, 0x60000);
+    for (size_t i = 0; i < machine->held_count; i++)
+        RESERVE(lent, machine->held[i].base, machine->held[i].size);
+    for (size_t i = 0; i < machine->map_count; i++)
+        if (machine->map[i].kind == MAP_USABLE)
+            mark(lent, machine->map[i].base, PAGE, MEMBLOCK_NO_MAP);
+}
+
+/* The map as a tree gives the block that its commands give; one level more is refused, as is every other fault. Then the tree that the
+ * machine has. */
+static void trees(void)
+{
+    map_as_tree(MEMBLOCK_TREE_DEPTH + 1);
+    fresh(&by_tree, LENGTH);
+    intake_tree(&by_tree, tree_length);
+    map_as_tree(MEMBLOCK_TREE_DEPTH);
+    intake_tree(&by_tree, 0);
+    intake_tree(&by_tree, MEMBLOCK_TREE_HEADER_LENGTH - 1);
+    intake_tree(&by_tree, tree_length - 1);
+    static const size_t fields[] = {MEMBLOCK_TREE_MAGIC_AT,   MEMBLOCK_TREE_VERSION_AT,           MEMBLOCK_TREE_COMPATIBLE_AT,
+                                    MEMBLOCK_TREE_LIST_AT,    MEMBLOCK_TREE_STRUCTURE_AT,         MEMBLOCK_TREE_STRINGS_LENGTH_AT,
+                                    MEMBLOCK_TREE_STRINGS_AT, MEMBLOCK_TREE_STRUCTURE_LENGTH_AT,  MEMBLOCK_TREE_TOTAL_SIZE_AT};
+    for (size_t i = 0; i < sizeof fields / sizeof fields[0]; i++) {
+        /* The last byte of a word, one less; then as it was. */
+        size_t at = fields[i] + 3;
+        poke_tree(at, (uint8_t)(tree[at] - 1));
+        intake_tree(&by_tree, tree_length);
+        poke_tree(at, (uint8_t)(tree[at] + 1));
+    }
+    intake_tree(&by_tree, tree_length);
+    fresh(&by_calls, LENGTH);
+    map_by_calls(&by_calls);
+    compare_two(&by_tree, &by_calls);
+    intake_tree(&by_tree, tree_length); /* a second time it changes nothing */
+    intake_tree(&by_tree, tree_length + GUARD);
+    compare_two(&by_tree, &by_calls);
+    /* What a machine has. */
+    if (machine->tree == NULL || machine->tree_length > TREE_MOST)
+        return;
+    tree_begin();
+    tree_length = 0;
+    for (size_t i = 0; i < machine->tree_length; i++)
+        tree_byte(machine->tree[i]);
+    tree_show();
+    fresh(&by_tree, LENGTH);
+    intake_tree(&by_tree, tree_length);
 }
 
 /* The image's end, where bottom-up allocations begin from now on; those that find no room there, as none is mapped yet above it, go
@@ -613,6 +899,8 @@ static void bad_block(void)
     allocate_slip(&block, (struct query){0, 3, 0, 0, 64, MEMBLOCK_WISHES + 1, MEMBLOCK_SLIP_LENGTH + 1});
     intake(&block, report_length);
     intake(&block, 1);
+    intake_tree(&block, tree_length);
+    intake_tree(&block, 0);
     poke(&block, MEMBLOCK_MEMORY_TOTAL_AT, byte);
 }
 
@@ -688,6 +976,21 @@ static void full_taken(struct lent *lent)
     set(lent, GIB(4), MEMBLOCK_BOTTOM_UP);
     if (find(lent, KIB(256), PAGE, MIB(2), 0, ANY) == MEMBLOCK_DONE)
         allocate(lent, PAGE, PAGE, slip_base() + KIB(64), 0, ANY); /* inside a free run: a record more */
+    /* A tree whose list has no room leaves nothing of its memory; one that touches has. */
+    tree_begin();
+    tree_pair(base + count * 2 * PAGE, PAGE);
+    tree_root(2, 2);
+    tree_memory();
+    tree_range(FAR_MEMORY, PAGE);
+    tree_node_end();
+    tree_end();
+    intake_tree(lent, tree_length);
+    poke_tree(MEMBLOCK_TREE_HEADER_LENGTH + 8 - 2, (uint8_t)((last + PAGE) >> 8));
+    poke_tree(MEMBLOCK_TREE_HEADER_LENGTH + 8 - 3, (uint8_t)((last + PAGE) >> 16));
+    poke_tree(MEMBLOCK_TREE_HEADER_LENGTH + 8 - 4, (uint8_t)((last + PAGE) >> 24));
+    intake_tree(lent, tree_length);
+    REMOVE(lent, FAR_MEMORY, PAGE);
+    FREE(lent, last + PAGE, PAGE);
     RESERVE(lent, base + PAGE, PAGE);                             /* fills a gap: a record less */
     RESERVE(lent, last + 4 * PAGE, PAGE);
     FREE(lent, base, (count + 4) * 2 * PAGE); /* over the gaps */
@@ -715,6 +1018,18 @@ static void full_memory(struct lent *lent)
     intake(lent, MEMBLOCK_REPORT_ENTRY_LENGTH);
     mark(lent, base + PAGE, 16, MEMBLOCK_MIRROR);
     unmark(lent, base + 3 * PAGE, 16, MEMBLOCK_NO_MAP);
+    /* So does a tree whose mark has no room. */
+    tree_begin();
+    tree_pair(FAR_TAKEN, PAGE);
+    tree_root(2, 2);
+    tree_node("reserved-memory");
+    tree_node("half-a-page");
+    tree_range(base + PAGE, PAGE / 2);
+    tree_property("no-map", 0);
+    tree_node_end();
+    tree_node_end();
+    tree_end();
+    intake_tree(lent, tree_length);
     /* A named end is cut to the limit, which is below this memory; next free knows no limit. */
     allocate(lent, PAGE, PAGE, 0, GIB(4096), 5);
     next_free(lent, 0, 5, NONE, MEMBLOCK_SLIP_LENGTH);
@@ -816,6 +1131,7 @@ int boot(const struct machine *runs_on)
     same_backwards(take_entries);
     same_backwards(take_report);
     converted();
+    trees();
     above_the_image();
     firmware();
     hotplug_and_mirror();
@@ -845,6 +1161,7 @@ int boot(const struct machine *runs_on)
     }
 
     tables(&mirror);
+    tables(&by_tree);
     tables(&block);
     named("end calls ", calls);
     named(" lines ", lines);

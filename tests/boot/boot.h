@@ -26,6 +26,9 @@ struct machine {
     size_t map_count;
     const struct held *held;
     size_t held_count;
+    /* A flattened tree, or null where there is none. */
+    const uint8_t *tree;
+    size_t tree_length;
     void (*write)(const char *text, size_t length);
     /* Writes over memory just allocated, and later looks whether it still holds that. Null where addresses are only numbers. */
     void (*fill)(uint64_t base, uint64_t end);

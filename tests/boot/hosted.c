@@ -1,4 +1,5 @@
-/* The boot program as an ordinary program: memory map built in, or from a file of lines 'base size kind', transcript on stdout. */
+/* The boot program as an ordinary program: memory map built in, or from a file of lines 'base size kind', and with --tree FILE a
+ * flattened tree besides; transcript on stdout. */
 #include "boot.h"
 
 #include <stdio.h>
@@ -6,6 +7,7 @@
 #include <string.h>
 
 #define MAP_MOST 128
+#define TREE_MOST 65536
 
 /* A board as firmware reports one: not in order, ends off the page, ranges told twice, memory on both sides of 4 GiB. */
 static const struct map_entry board[] = {
@@ -61,6 +63,7 @@ static size_t read_map(FILE *file, struct map_entry *map, size_t most)
 int main(int count, char **arguments)
 {
     static struct map_entry map[MAP_MOST];
+    static uint8_t tree[TREE_MOST];
     struct machine machine = {
         .map = board,
         .map_count = sizeof board / sizeof board[0],
@@ -68,8 +71,20 @@ int main(int count, char **arguments)
         .held_count = sizeof held / sizeof held[0],
         .write = write_out,
     };
+    if (count >= 3 && strcmp(arguments[1], "--tree") == 0) {
+        FILE *file = fopen(arguments[2], "rb");
+        if (file == NULL) {
+            perror(arguments[2]);
+            return 2;
+        }
+        machine.tree = tree;
+        machine.tree_length = fread(tree, 1, sizeof tree, file);
+        fclose(file);
+        arguments += 2;
+        count -= 2;
+    }
     if (count > 2) {
-        fprintf(stderr, "usage: %s [map]\n", arguments[0]);
+        fprintf(stderr, "usage: [--tree FILE] [map]\n");
         return 2;
     }
     if (count == 2) {

@@ -1,4 +1,5 @@
-/* The boot program on a bare PC: memory map from the PVH start info, transcript over the serial port, end by isa-debug-exit. */
+/* The boot program on a bare PC: memory map from the PVH start info, a tree linked in (a PC hands over none), transcript over the serial
+ * port, end by isa-debug-exit. */
 #include "boot.h"
 
 #define COM1 0x3F8
@@ -31,6 +32,8 @@ struct start_info_entry {
 
 extern char image_start[];
 extern char image_end[];
+extern const uint8_t machine_tree[];
+extern const uint8_t machine_tree_end[];
 
 void machine_main(uint32_t start_info);
 
@@ -121,6 +124,8 @@ void machine_main(uint32_t start_info)
         .map_count = info->map_count,
         .held = held,
         .held_count = sizeof held / sizeof held[0],
+        .tree = machine_tree,
+        .tree_length = (size_t)(machine_tree_end - machine_tree),
         .write = serial_write,
         .fill = fill,
         .holds = holds,

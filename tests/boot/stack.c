@@ -2,8 +2,9 @@
  *
  * Each call runs on a painted stack of its own; the deepest byte that lost its paint says how much was used, bytes of the red zone
  * too. Twice with different paint, so that a byte written with the paint's own value is seen. The blocks have tables of several
- * fills up to full, with ranges on, beside and across their records, for free most of them on what is taken; some blocks, slips, reports
- * and old blocks are bad. Fails when a function needs more than memblock.h says. */
+ * fills up to full, with ranges on, beside and across their records, for free most of them on what is taken; some blocks, slips, reports,
+ * trees and old blocks are bad. Fails when a function needs more than memblock.h says, or when a tree's intake needs another stack for
+ * a large tree than for a small one, both with nodes of every level that is read. */
 #include "memblock.h"
 
 #include <stdio.h>
@@ -45,7 +46,7 @@ __asm__(".text\n"
         "    popq %rbp\n"
         "    ret\n");
 
-enum numbers { NONE, LIMIT, IMAGE_END, RANGE_TAG, RANGE_FLAG, RANGE, TAKEN_RANGE, ALIGNMENT, FROM, SEARCH, REPORT, OLD };
+enum numbers { NONE, LIMIT, IMAGE_END, RANGE_TAG, RANGE_FLAG, RANGE, TAKEN_RANGE, ALIGNMENT, FROM, SEARCH, REPORT, TREE, OLD };
 
 static struct function {
     const char *name;
@@ -69,6 +70,7 @@ static struct function {
     {"find", (void (*)(void))memblock_find, SEARCH, MEMBLOCK_STACK_FIND, 0, 0, 0},
     {"allocate", (void (*)(void))memblock_allocate, SEARCH, MEMBLOCK_STACK_ALLOCATE, 0, 0, 0},
     {"intake_e820", (void (*)(void))memblock_intake_e820, REPORT, MEMBLOCK_STACK_INTAKE_E820, 0, 0, 0},
+    {"intake_tree", (void (*)(void))memblock_intake_tree, TREE, MEMBLOCK_STACK_INTAKE_TREE, 0, 0, 0},
     {"convert", (void (*)(void))memblock_convert, OLD, MEMBLOCK_STACK_CONVERT, 0, 0, 0},
 };
 
@@ -106,14 +108,15 @@ static uint64_t taken_base(uint64_t i)
 }
 
 /* Memory records of 4 KiB, of which every third touches the one before, of any flags or of those of edition 1; taken records of 256
- * bytes within them; no image end. */
+ * bytes within them; no image end. Their tags are such that some marks make one record of two that touch, where flags are any, and some
+ * adds one of two that do not, where they are those of edition 1. */
 static void fill_tables(unsigned memory, unsigned taken, uint32_t direction, int any_flags)
 {
     memblock_fresh(before, sizeof before);
     memblock_set(before, sizeof before, MEMBLOCK_NO_LIMIT, direction);
     for (unsigned i = 0; i < memory; i++)
         memblock_add(before, sizeof before, 0x2000 * (uint64_t)i + (i % 3 == 0 ? 0x1000 : 0), 0x1000,
-                     any_flags ? i % (MEMBLOCK_FLAGS + 1) : i % 5 == 0 ? MEMBLOCK_NO_MAP : 0, i % MEMBLOCK_NODES);
+                     any_flags ? i % (MEMBLOCK_FLAGS + 1) : i % 5 == 0 ? MEMBLOCK_NO_MAP : 0, any_flags ? i / 32 : i % 3 == 0);
     for (unsigned i = 0; i < taken; i++)
         memblock_reserve(before, sizeof before, taken_base(i), TAKEN_SIZE);
     taken_records = taken;
@@ -191,6 +194,144 @@ static size_t choose_report(void)
     return (size_t)(entry - report) + (below(50) == 0 && count <= MEMBLOCK_REPORT_ENTRIES);
 }
 
+/* A tree, from its front; what does not fit is left out, and the tree then bad. */
+static uint8_t tree[1 << 20];
+static size_t tree_length;
+
+static void tree_number(size_t length, uint64_t number)
+{
+    while (length-- > 0)
+        if (tree_length < sizeof tree)
+            tree[tree_length++] = (uint8_t)(number >> 8 * length);
+}
+
+static void tree_field(size_t at, size_t word)
+{
+    for (size_t i = 0; i < 4; i++)
+        tree[at + i] = (uint8_t)(word >> 8 * (3 - i));
+}
+
+enum { BEGIN_NODE = 1, END_NODE, PROPERTY, NOP, END = 9 };
+
+/* Names of properties, each at a place of its own. */
+#define NAMES "#address-cells\0#size-cells\0device_type\0reg\0numa-node-id\0no-map"
+enum { ADDRESS_CELLS = 0, SIZE_CELLS = 15, DEVICE_TYPE = 27, REG = 39, NODE_ID = 43, NO_MAP = 56 };
+
+static void tree_padded(const char *bytes, size_t length)
+{
+    for (size_t i = 0; i < length; i++)
+        tree_number(1, (uint8_t)bytes[i]);
+    while (tree_length % 4 != 0)
+        tree_number(1, below(256));
+}
+
+static void tree_node(const char *name)
+{
+    tree_number(4, BEGIN_NODE);
+    tree_padded(name, strlen(name) + 1);
+}
+
+static void tree_property(size_t name, const char *value, size_t length)
+{
+    tree_number(4, PROPERTY);
+    tree_number(4, length);
+    tree_number(4, name);
+    tree_padded(value, length);
+}
+
+static void tree_end_nodes(unsigned count)
+{
+    while (count-- > 0)
+        tree_number(4, END_NODE);
+}
+
+/* Ranges as they are chosen elsewhere, or so many of a size, each 0x2000 above the one before. */
+static void tree_ranges(size_t so_many, uint64_t each)
+{
+    size_t count = so_many > 0 ? so_many : below(4);
+    tree_number(4, PROPERTY);
+    tree_number(4, 16 * count);
+    tree_number(4, REG);
+    for (size_t i = 0; i < count; i++) {
+        tree_number(8, so_many > 0 ? 0x40000000 + 0x2000 * i : address());
+        tree_number(8, so_many > 0 ? each : size());
+    }
+}
+
+/* So many nodes one in the other, with properties and, in a large tree, nops and nodes without any. */
+static void tree_nodes(unsigned levels, unsigned large)
+{
+    for (unsigned i = 0; i < levels; i++) {
+        tree_node("level");
+        tree_property(below(2) ? REG : DEVICE_TYPE, "memory", 7);
+        for (unsigned k = 0; k < large; k++)
+            tree_number(4, NOP);
+    }
+    for (unsigned k = 0; k < large; k++)
+        tree_property(NO_MAP, NAMES, sizeof NAMES);
+    tree_end_nodes(levels);
+}
+
+/* A tree whose nodes reach this level. Of ranges as many as asked for, of each kind: apart, or where they are wide over each other.
+ * Large gives it so many times more nodes. */
+static void build_tree(unsigned deepest, size_t list, size_t adds, size_t reserves, size_t marks, int wide, unsigned large)
+{
+    tree_length = 0;
+    while (tree_length < MEMBLOCK_TREE_HEADER_LENGTH)
+        tree_number(4, 0);
+    for (size_t i = 0; i < list; i++) {
+        tree_number(8, 0x80000000 + 0x2000 * i);
+        tree_number(8, 0x1000);
+    }
+    tree_number(8, 0);
+    tree_number(8, 0);
+    size_t structure_at = tree_length;
+    tree_node("");
+    tree_property(ADDRESS_CELLS, "\0\0\0\2", 4);
+    tree_property(SIZE_CELLS, "\0\0\0\2", 4);
+    for (unsigned i = 0; i <= large; i++)
+        tree_nodes(deepest - 1, large);
+    tree_node("memory");
+    tree_property(DEVICE_TYPE, "memory", 7);
+    tree_property(NODE_ID, "\0\0\0\1", 4);
+    tree_ranges(adds, wide ? 0x5000 : 0x1000);
+    tree_nodes(deepest - 2, large);
+    tree_end_nodes(1);
+    tree_node("reserved-memory");
+    tree_node("reserved");
+    tree_ranges(reserves, wide ? 0x5000 : 0x1000);
+    tree_nodes(deepest - 3, large);
+    tree_end_nodes(1);
+    tree_node("marked");
+    tree_ranges(marks, wide ? 0x5000 : 0x800);
+    tree_property(NO_MAP, "", 0);
+    tree_end_nodes(3);
+    tree_number(4, END);
+    size_t strings_at = tree_length;
+    for (size_t i = 0; i < sizeof NAMES; i++)
+        tree_number(1, (uint8_t)NAMES[i]);
+    tree_field(MEMBLOCK_TREE_MAGIC_AT, MEMBLOCK_TREE_MAGIC);
+    tree_field(MEMBLOCK_TREE_TOTAL_SIZE_AT, tree_length);
+    tree_field(MEMBLOCK_TREE_STRUCTURE_AT, structure_at);
+    tree_field(MEMBLOCK_TREE_STRINGS_AT, strings_at);
+    tree_field(MEMBLOCK_TREE_LIST_AT, MEMBLOCK_TREE_HEADER_LENGTH);
+    tree_field(MEMBLOCK_TREE_VERSION_AT, MEMBLOCK_TREE_VERSION);
+    tree_field(MEMBLOCK_TREE_COMPATIBLE_AT, MEMBLOCK_TREE_COMPATIBLE);
+    tree_field(MEMBLOCK_TREE_STRINGS_LENGTH_AT, sizeof NAMES);
+    tree_field(MEMBLOCK_TREE_STRUCTURE_LENGTH_AT, strings_at - structure_at);
+}
+
+/* Most to the deepest level, some with as many ranges as a table has room for, some bad; answers the tree's length. */
+static size_t choose_tree(void)
+{
+    unsigned deepest = below(4) == 0 ? 4 + (unsigned)below(MEMBLOCK_TREE_DEPTH - 2) : MEMBLOCK_TREE_DEPTH;
+    build_tree(deepest, below(8) == 0 ? 513 : below(3), below(8) == 0 ? 127 + below(3) : 0, below(16) == 0 ? 511 + below(3) : 0,
+               below(8) == 0 ? 64 + below(2) : 0, 0, 0);
+    if (below(8) == 0)
+        tree[below(tree_length)] ^= 1;
+    return tree_length - (below(20) == 0);
+}
+
 /* Answers how many arguments there are. */
 static size_t choose(enum numbers numbers, uint64_t *arguments)
 {
@@ -210,8 +351,8 @@ static size_t choose(enum numbers numbers, uint64_t *arguments)
     case RANGE_TAG:
         arguments[n++] = address();
         arguments[n++] = size();
-        arguments[n++] = below(below(8) == 0 ? MEMBLOCK_FLAGS + 3 : MEMBLOCK_FLAGS + 1);
-        arguments[n++] = below(65);
+        arguments[n++] = below(2) == 0 ? 0 : below(below(8) == 0 ? MEMBLOCK_FLAGS + 3 : MEMBLOCK_FLAGS + 1);
+        arguments[n++] = below(2) == 0 ? 0 : below(MEMBLOCK_NODES + 1);
         return n;
     case RANGE_FLAG:
         arguments[n++] = address();
@@ -245,6 +386,10 @@ static size_t choose(enum numbers numbers, uint64_t *arguments)
         arguments[n++] = (uint64_t)(uintptr_t)report;
         arguments[n++] = choose_report();
         return n;
+    case TREE:
+        arguments[n++] = (uint64_t)(uintptr_t)tree;
+        arguments[n++] = choose_tree();
+        return n;
     case FROM:
         arguments[n++] = address();
         arguments[n++] = node();
@@ -264,26 +409,74 @@ static size_t choose(enum numbers numbers, uint64_t *arguments)
     return n;
 }
 
-static void measure(struct function *function)
+/* How deep one call goes, on a copy of the block. */
+static size_t depth_of(void (*call)(void), const uint64_t *arguments, size_t count, uint32_t *number)
 {
     static const uint8_t paints[] = {0x5C, 0xA3};
-    uint64_t arguments[MOST_ARGUMENTS] = {0};
-    size_t count = choose(function->numbers, arguments);
     size_t on_stack = count > IN_REGISTERS ? count - IN_REGISTERS : 0;
+    size_t deepest = 0;
     for (size_t i = 0; i < sizeof paints; i++) {
         size_t lowest = 0;
         memcpy(block, before, sizeof block);
         memset(stack, paints[i], sizeof stack);
-        uint32_t number = (uint32_t)call_on(stack + sizeof stack, function->call, arguments, on_stack);
+        *number = (uint32_t)call_on(stack + sizeof stack, call, arguments, on_stack);
         while (lowest < sizeof stack && stack[lowest] == paints[i])
             lowest++;
-        if (sizeof stack - lowest > function->deepest)
-            function->deepest = sizeof stack - lowest;
-        if (number == MEMBLOCK_DONE)
-            function->done++;
-        else
-            function->refused++;
+        if (sizeof stack - lowest > deepest)
+            deepest = sizeof stack - lowest;
     }
+    return deepest;
+}
+
+static void measure(struct function *function)
+{
+    uint64_t arguments[MOST_ARGUMENTS] = {0};
+    uint32_t number;
+    size_t count = choose(function->numbers, arguments);
+    size_t deepest = depth_of(function->call, arguments, count, &number);
+    if (deepest > function->deepest)
+        function->deepest = deepest;
+    if (number == MEMBLOCK_DONE)
+        function->done++;
+    else
+        function->refused++;
+}
+
+/* Trees with nodes of every level, small and large: done on empty tables, refused on fuller ones with 6 by each kind of command, and one
+ * level more, which is refused with 11. Tells the most, and answers whether large ones need another stack than small ones. */
+static int small_and_large(size_t *most)
+{
+    static const uint32_t numbers[] = {MEMBLOCK_TABLE_FULL, MEMBLOCK_TABLE_FULL, MEMBLOCK_TABLE_FULL,
+                                       MEMBLOCK_TABLE_FULL, MEMBLOCK_DONE,       MEMBLOCK_BAD_TREE};
+    enum { MEMORY, LIST, RESERVED, MARKS, DONE, TOO_DEEP, KINDS };
+    size_t deepest[2] = {0};
+    size_t lengths[2] = {0};
+    int wrong = 0;
+    for (unsigned large = 0; large < 2; large++)
+        for (unsigned kind = 0; kind < KINDS; kind++) {
+            uint32_t number;
+            if (kind == DONE)
+                fill_tables(0, 0, 0, 1);
+            else
+                fill_tables(kind == MARKS ? 60 : 100, kind == LIST ? 500 : 10, 0, 1);
+            build_tree(MEMBLOCK_TREE_DEPTH + (kind == TOO_DEEP), kind == LIST ? 20 : 2, kind == MEMORY ? 40 : kind == MARKS ? 60 : 5,
+                       kind == RESERVED ? 510 : 2, kind == MARKS ? 60 : 5, kind == DONE, large * 40);
+            uint64_t arguments[] = {(uint64_t)(uintptr_t)block, sizeof block, (uint64_t)(uintptr_t)tree, tree_length};
+            size_t depth = depth_of((void (*)(void))memblock_intake_tree, arguments, 4, &number);
+            if (number != numbers[kind]) {
+                printf("stack: a tree of kind %u answers %u, not %u: WRONG\n", kind, (unsigned)number, (unsigned)numbers[kind]);
+                wrong = 1;
+            }
+            if (depth > deepest[large])
+                deepest[large] = depth;
+            if (tree_length > lengths[large])
+                lengths[large] = tree_length;
+        }
+    wrong |= deepest[0] != deepest[1] || lengths[1] < 20 * lengths[0];
+    printf("stack: memblock_intake_tree %zu bytes for trees of up to %zu bytes, %zu for trees of up to %zu%s\n", deepest[0], lengths[0],
+           deepest[1], lengths[1], wrong ? ": WRONG" : "");
+    *most = deepest[1] > deepest[0] ? deepest[1] : deepest[0];
+    return wrong;
 }
 
 int main(void)
@@ -305,6 +498,13 @@ int main(void)
                 for (size_t i = 0; i < count; i++)
                     measure(&functions[i]);
             }
+    for (size_t i = 0; i < count; i++)
+        if (functions[i].numbers == TREE) {
+            size_t most;
+            wrong |= small_and_large(&most);
+            if (most > functions[i].deepest)
+                functions[i].deepest = most;
+        }
     for (size_t i = 0; i < count; i++) {
         const struct function *f = &functions[i];
         size_t needs = (f->deepest + 63) / 64 * 64;

@@ -85,7 +85,7 @@ page_map:
     .skip 4 * 4096
 page_map_end:
 stack:
-    .skip 16384
+    .skip 65536
 stack_top:
 
     .section .note.GNU-stack, "", @progbits

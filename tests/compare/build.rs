@@ -8,7 +8,7 @@
 use std::path::{Path, PathBuf};
 use std::process::Command;
 
-const FUNCTIONS: [&str; 15] = [
+const FUNCTIONS: [&str; 16] = [
     "memblock_fresh",
     "memblock_set",
     "memblock_set_image_end",
@@ -23,6 +23,7 @@ const FUNCTIONS: [&str; 15] = [
     "memblock_find",
     "memblock_allocate",
     "memblock_intake_e820",
+    "memblock_intake_tree",
     "memblock_convert",
 ];
 

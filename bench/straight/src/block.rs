@@ -11,7 +11,7 @@ const HEADER: usize = 80;
 const MEMORY: usize = 128;
 /// The most taken records.
 pub const TAKEN: usize = 512;
-/// The header and the memory table: all that an intake may change.
+/// The header and the memory table: all that the intake of a report may change.
 const FRONT: usize = HEADER + MEMORY * RECORD;
 const ZEROS: [u8; TAKEN * RECORD] = [0; TAKEN * RECORD];
 
@@ -247,6 +247,15 @@ impl<B: AsRef<[u8]> + AsMut<[u8]>> Block<B> {
 
     pub fn restore(&mut self, saved: &[u8; FRONT]) {
         self.bytes_mut()[..FRONT].copy_from_slice(saved);
+    }
+
+    /// A copy of all bytes, to be put back by `restore_whole`.
+    pub fn saved_whole(&self) -> [u8; LENGTH] {
+        self.bytes().try_into().expect("a good block")
+    }
+
+    pub fn restore_whole(&mut self, saved: &[u8; LENGTH]) {
+        self.bytes_mut().copy_from_slice(saved);
     }
 
     fn write_count_and_total(&mut self, which: Which, count: usize, total: u64) {

@@ -1,6 +1,6 @@
-//! The twelve commands of document 01 and the E820 intake of request E1, on the
-//! block of request E4, with the flags and wishes of request E6, the image end of
-//! request E7 and the frees of request E10, as plain Rust: the program that the
+//! The twelve commands of document 01, the E820 intake of request E1 and the tree's
+//! intake of request E8, on the block of request E4, with the flags and wishes of request
+//! E6, the image end of request E7 and the frees of request E10, as plain Rust: the program that the
 //! library's speed is held against. Same rules, same numbers, same bytes.
 
 #![forbid(unsafe_code)]
@@ -9,6 +9,7 @@ mod block;
 mod record;
 mod report;
 mod search;
+mod tree;
 
 pub use block::{LENGTH, TAKEN};
 pub use record::{HOTPLUG, MIRROR, NO_MAP};
@@ -27,6 +28,7 @@ pub const TABLE_FULL: u32 = 6;
 pub const BAD_DIRECTION: u32 = 7;
 pub const BAD_SLIP: u32 = 8;
 pub const BAD_REPORT: u32 = 10;
+pub const BAD_TREE: u32 = 11;
 pub const NOT_TAKEN: u32 = 12;
 
 /// The node that means any.
@@ -140,6 +142,50 @@ pub fn intake_e820(block: &mut [u8], report: &[u8]) -> u32 {
         }
     }
     block.trim(report::PAGE);
+    DONE
+}
+
+#[inline(never)]
+pub fn intake_tree(block: &mut [u8], board: &[u8]) -> u32 {
+    let Some(mut block) = Block::check(block) else {
+        return BAD_BLOCK;
+    };
+    let Some(asked) = tree::read(board) else {
+        return BAD_TREE;
+    };
+    let saved = block.saved_whole();
+    let number = do_asked(&mut block, &asked);
+    if number != DONE {
+        block.restore_whole(&saved);
+    }
+    number
+}
+
+/// What a tree asks for, up to the first command that is refused.
+fn do_asked(block: &mut Block<&mut [u8]>, asked: &tree::Asked) -> u32 {
+    for &(base, size, node) in &asked.memory {
+        let tag = Tag { flags: 0, node };
+        let number = block.change(Which::Memory, base, size, |old| old.or(Some(tag)));
+        if number != DONE {
+            return number;
+        }
+    }
+    for &(base, size) in asked.list.iter().chain(&asked.reserved) {
+        let number = block.change(Which::Taken, base, size, |_| Some(PLAIN));
+        if number != DONE {
+            return number;
+        }
+    }
+    for &(base, size) in &asked.no_map {
+        let marked = |tag: Tag| Tag {
+            flags: tag.flags | NO_MAP,
+            ..tag
+        };
+        let number = block.change(Which::Memory, base, size, |old| old.map(marked));
+        if number != DONE {
+            return number;
+        }
+    }
     DONE
 }
 

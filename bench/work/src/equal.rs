@@ -58,10 +58,23 @@ pub fn random_calls<Other: Side>(calls: u64) {
                 block = after;
             }
         }
+        if turn % 20 == 10 && Other::TREES {
+            let board = random_tree(&mut rng, wide);
+            let call = Call::IntakeTree(&board);
+            if rng.between(0, 19) == 0 {
+                let mut damaged = damaged(&mut rng, &block);
+                seen[call_both::<Other>(call, &mut damaged) as usize] += 1;
+            }
+            let mut after = block.clone();
+            seen[call_both::<Other>(call, &mut after) as usize] += 1;
+            if rng.between(0, 3) == 0 {
+                block = after;
+            }
+        }
     }
-    // 8 needs a slip of another length and is left to the tests; there is no 9 and no 11.
-    let met = |number: usize| seen[number] > 0;
-    assert!((0..8).chain([10, 12]).all(met), "not every number met");
+    // 8 needs a slip of another length and is left to the tests; there is no 9.
+    let met = |number: usize| seen[number] > 0 || number == 11 && !Other::TREES;
+    assert!((0..8).chain(10..13).all(met), "not every number met");
     assert!(taken_full, "the taken table was never full");
     // Of the calls a tenth are frees.
     assert!(
@@ -164,6 +177,22 @@ fn random_report(rng: &mut Rng) -> Vec<u8> {
         report.push(0);
     }
     report
+}
+
+/// A tree with ranges where random calls have theirs; now and then a bad one.
+fn random_tree(rng: &mut Rng, wide: bool) -> Vec<u8> {
+    let shift = shift(wide);
+    let mut other = trees::rng::Rng::new(rng.next(), "equal", 0);
+    let made = trees::random::some(&mut other, &mut |other| {
+        (other.below(4000) << shift, other.below(960))
+    });
+    match rng.between(0, 9) {
+        0 => other
+            .pick(&trees::Break::ALL)
+            .done_to(&mut other, &made.tree),
+        1 => trees::broken::damaged(&mut other, made.bytes),
+        _ => made.bytes,
+    }
 }
 
 fn shift(wide: bool) -> u32 {

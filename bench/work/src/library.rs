@@ -1,5 +1,6 @@
 // The functions of an archive. This text is compiled three times: for the archive that is measured, and by build.rs under other names for an earlier one,
-// as it is and without flag and wish, which the functions take since request E6; without the image end, where the earlier one has no function for it.
+// as it is and without flag and wish, which the functions take since request E6; without the image end and the tree, where the earlier one has no
+// function for it.
 
 use crate::sides::{Block, Call, Side, Slip, LENGTH};
 
@@ -22,18 +23,20 @@ extern "C" {
     fn memblock_allocate(block: *mut u8, len: usize, size: u64, alignment: u64, start: u64, end: u64,
         node: u32, wish: u32, slip: *mut u8, slip_len: usize) -> u32;
     fn memblock_intake_e820(block: *mut u8, len: usize, report: *const u8, report_len: usize) -> u32;
+    fn memblock_intake_tree(block: *mut u8, len: usize, board: *const u8, board_len: usize) -> u32;
 }
 
 pub struct Library;
 
 impl Side for Library {
     const NAME: &'static str = "library";
+    const TREES: bool = true;
 
     fn call(call: Call, block: &mut Block, slip: &mut Slip) -> u32 {
         let (b, n) = (block.0.as_mut_ptr(), LENGTH);
         let (s, m) = (slip.as_mut_ptr(), slip.len());
         // Block and slip are whole, writable and apart: they are two `&mut`. The
-        // report is only read.
+        // report and the tree are only read.
         unsafe {
             match call {
                 Call::Fresh => memblock_fresh(b, n),
@@ -56,6 +59,7 @@ impl Side for Library {
                     memblock_allocate(b, n, size, alignment, start, end, node, wish, s, m)
                 }
                 Call::Intake(report) => memblock_intake_e820(b, n, report.as_ptr(), report.len()),
+                Call::IntakeTree(board) => memblock_intake_tree(b, n, board.as_ptr(), board.len()),
             }
         }
     }

@@ -19,6 +19,7 @@ mod library;
 mod rng;
 mod sides;
 mod time;
+mod tree;
 
 use before::Library as Before;
 use before_e6::Library as BeforeE6;
@@ -52,11 +53,12 @@ type Part = (&'static str, fn());
 
 /// The parts are run in this order; arguments name those that are wanted. Without
 /// arguments `count` is left out: it needs bench/run and takes longer.
-fn parts<Other: Side>() -> [Part; 4] {
+fn parts<Other: Side>() -> [Part; 5] {
     [
         ("equal", || equal::random_calls::<Other>(RANDOM_CALLS)),
         ("intake", intake::<Other>),
         ("growth", || growth::table::<Other>(CALLS_OF_A_KIND)),
+        ("tree", tree::print::<Other>),
         ("count", count::print::<Other>),
     ]
 }
@@ -81,7 +83,7 @@ fn main() {
     };
     for name in &wanted {
         if !parts.iter().any(|part| part.0 == name) {
-            eprintln!("bench: no part {name}; there are equal, intake, growth and count");
+            eprintln!("bench: no part {name}; there are equal, intake, growth, tree and count");
             std::process::exit(2);
         }
     }

@@ -45,6 +45,8 @@ pub enum Call<'a> {
     Allocate(u64, u64, u64, u64, u32, u32),
     /// The report's bytes.
     Intake(&'a [u8]),
+    /// The tree's bytes.
+    IntakeTree(&'a [u8]),
 }
 
 /// The 20 bytes of an entry of an E820 report.
@@ -58,6 +60,8 @@ pub fn entry(base: u64, size: u64, kind: u32) -> [u8; 20] {
 
 pub trait Side {
     const NAME: &'static str;
+    /// Whether there is a function for trees.
+    const TREES: bool;
 
     fn call(call: Call, block: &mut Block, slip: &mut Slip) -> u32;
 }
@@ -66,6 +70,7 @@ pub struct Straight;
 
 impl Side for Straight {
     const NAME: &'static str = "straightforward";
+    const TREES: bool = true;
 
     fn call(call: Call, block: &mut Block, slip: &mut Slip) -> u32 {
         let b = &mut block.0;
@@ -88,6 +93,7 @@ impl Side for Straight {
                 straight::allocate(b, size, alignment, start, end, node, wish, slip)
             }
             Call::Intake(report) => straight::intake_e820(b, report),
+            Call::IntakeTree(board) => straight::intake_tree(b, board),
         }
     }
 }

@@ -33,6 +33,10 @@ commands-good cs = commands-leave StaysGood (λ b g. g) (λ b c d h k g. k (h g)
 pub turn-good : (cs : List Command) (b : List ℕ) → good current b ≡ true → (x : ℕ) (c : List ℕ) → outcome x c ≡ inTurn (steps current cs) b → good current c ≡ true
 turn-good cs b g x c o = rw (ap (λ (y : Outcome). y .block) o) (commands-good cs b g)
 
+-- one command, in the code's own form
+pub command-kept : (c : Command) (b : List ℕ) → good current b ≡ true → (x : ℕ) (d : List ℕ) → outcome x d ≡ commandOutcome current c b → good current d ≡ true
+command-kept c b g x d o = rw (ap (λ (y : Outcome). y .block) o) (command-good b g c)
+
 trimmed-good : Leaves StaysGood (inTurn (trim current 4096 ∷ []))
 trimmed-good b g = rw (turn-last (trim current 4096) b) (trim-good b g 4096)
 
@@ -62,11 +66,11 @@ entries-front es b g =
 
 -- ---- the number
 
-abbrev DoneOrFull : Outcome → Type 0
+abbrev pub DoneOrFull : Outcome → Type 0
 DoneOrFull o = (o .number ≡ 0) ⊎ (o .number ≡ 6)
 
 -- legal commands in turn, none strict, are done, or one finds its table full
-commands-number : (cs : List Command) → ((c : Command) → List·Memᴰ c cs → (legalVerb (c .verb) ≡ true) × (strict (c .verb) ≡ false)) → (b : List ℕ) → good current b ≡ true
+pub commands-number : (cs : List Command) → ((c : Command) → List·Memᴰ c cs → (legalVerb (c .verb) ≡ true) × (strict (c .verb) ≡ false)) → (b : List ℕ) → good current b ≡ true
     → DoneOrFull (inTurn (steps current cs) b)
 unfolding inTurn
 commands-number [] h b g = inl refl

@@ -2,7 +2,7 @@
 use Prim.Native.Nat.{ℕ, _+_, _-_, _*_, _≤_, _<_}
 use mathlib.Core.Path.{_≡_, refl, sym, ap, _∙_}
 use mathlib.Core.Bool.{Bool, true, false, cond}
-use mathlib.Core.List.{List, [], _∷_, _++_, List·Memᴰ, List·Memᴰ·head, List·Memᴰ·tail}
+use mathlib.Core.List.{List, [], _∷_, _++_, append-assoc, List·Memᴰ, List·Memᴰ·head, List·Memᴰ·tail}
 use native.Mathlib.Omega.{arith}
 use lib.Dec.{eqb}
 use lib.ListN.{drop}
@@ -47,6 +47,20 @@ turn-last s b = go (s b) (eqb (s b .number) 0) refl
     go o true e = let p = eqb-true (o .number) 0 e in λ i. record { number = sym p i; block = o .block }
     go o false e = refl
 
+-- ---- commands in turn
+
+pub steps-append : (cs ds : List Command) → steps current (cs ++ ds) ≡ steps current cs ++ steps current ds
+steps-append [] ds = refl
+steps-append (c ∷ cs) ds = ap (λ (xs : List Step). commandOutcome current c ∷ xs) (steps-append cs ds)
+
+-- two lists of commands, one after the other
+module _ (cs ds : List Command) (b : List ℕ) (x : ℕ) (b′ : List ℕ) (o : outcome x b′ ≡ inTurn (steps current cs) b) where
+  pub commands-refused : (x ≡ 0 → ⊥) → outcome x b′ ≡ inTurn (steps current (cs ++ ds)) b
+  commands-refused h = turn-refused (steps current cs) (steps current ds) b x b′ o h ∙ ap (λ (ss : List Step). inTurn ss b) (sym (steps-append cs ds))
+
+  pub commands-next : x ≡ 0 → inTurn (steps current ds) b′ ≡ inTurn (steps current (cs ++ ds)) b
+  commands-next h = turn-next (steps current cs) (steps current ds) b x b′ o h ∙ ap (λ (ss : List Step). inTurn ss b) (sym (steps-append cs ds))
+
 -- ---- what steps leave of a block
 
 -- each block that the step leaves stands so to the one that it was given
@@ -76,14 +90,11 @@ module _ (P : List ℕ → List ℕ → Type 0) (same : (b : List ℕ) → P b b
 
 -- ---- the entries of a report in turn
 
-steps-append : (cs ds : List Command) (ss : List Step) → steps current (cs ++ ds) ++ ss ≡ steps current cs ++ (steps current ds ++ ss)
-steps-append [] ds ss = refl
-steps-append (c ∷ cs) ds ss = ap (λ (xs : List Step). commandOutcome current c ∷ xs) (steps-append cs ds ss)
-
 -- the first entry's commands, and then the others'
 entry-steps : (e : Entry) (es : List Entry) → entrySteps current (e ∷ es) ≡ steps current (entryCommands e) ++ entrySteps current es
 unfolding entrySteps commands
-entry-steps e es = steps-append (entryCommands e) (commands es) (trim current 4096 ∷ [])
+entry-steps e es =
+    rw (steps-append (entryCommands e) (commands es)) (append-assoc (steps current (entryCommands e)) (steps current (commands es)) (trim current 4096 ∷ []))
 
 abbrev pub Rest : List ℕ → ℕ → ℕ → List ℕ → Outcome
 Rest r n i b = inTurn (entrySteps current (readEntries (n - i) (drop (20 * i) r))) b

@@ -10,5 +10,7 @@ pub mod Cases
 pub mod Freed
 pub mod FreedTwice
 pub mod Refusals
+pub mod InTurn
 pub mod Reports
+pub mod Trees
 pub mod Editions

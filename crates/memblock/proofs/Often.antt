@@ -1,8 +1,8 @@
--- Two lists in which each call stands as often have the same members. Assumes nothing.
-use Prim.Native.Nat.{ℕ, suc, _<_}
+-- Two lists in which each call stands as often have the same members; in another order each stands as often. Assumes nothing.
+use Prim.Native.Nat.{ℕ, suc, _+_, _<_}
 use mathlib.Core.Path.{_≡_, refl, sym, ap, _∙_}
 use mathlib.Core.Bool.{Bool, true, false, cond, _&&_}
-use mathlib.Core.List.{List, [], _∷_, List·Memᴰ, List·Memᴰ·head, List·Memᴰ·tail}
+use mathlib.Core.List.{List, [], _∷_, List·Memᴰ, List·Memᴰ·head, List·Memᴰ·tail, List·Permᴰ, List·Permᴰ·nil, List·Permᴰ·cons, List·Permᴰ·swap, List·Permᴰ·trans}
 use native.Mathlib.Omega.{arith}
 use lib.Dec.{eqb}
 use borrow.Author.Tests.{eqb-true, eq-eqb}
@@ -76,3 +76,28 @@ member-often d (List·Memᴰ·tail {x = x} {xs = ds} m) = go (sameCall d x) (mem
 
 pub same-members : (ds es : List Command) → SameDone ds es → (d : Command) → List·Memᴰ d ds → List·Memᴰ d es
 same-members ds es h d m = often-member d es (omega (arith, h d, member-often d m))
+
+-- ---- in another order
+
+module _ (d : Command) where
+  counts : Command → ℕ
+  counts c = cond (sameCall d c) 1 0
+
+  often-more : (c : Command) (cs : List Command) → often d (c ∷ cs) ≡ counts c + often d cs
+  unfolding often counts
+  often-more c cs = go (sameCall d c)
+    where
+      go : (t : Bool) → cond t (suc (often d cs)) (often d cs) ≡ cond t 1 0 + often d cs
+      go true = omega arith
+      go false = omega arith
+
+  perm-often : {cs ds : List Command} → List·Permᴰ cs ds → often d cs ≡ often d ds
+  perm-often List·Permᴰ·nil = refl
+  perm-often (List·Permᴰ·cons {a = x} {b = y} {l₁ = cs} {l₂ = ds} p q) = omega (arith, often-more x cs, often-more y ds, ap counts p, perm-often q)
+  perm-often (List·Permᴰ·swap {a = x} {b = y} {a′ = u} {b′ = v} {l = cs} p q) =
+      omega (arith, often-more x (y ∷ cs), often-more y cs, often-more u (v ∷ cs), often-more v cs, ap counts p, ap counts q)
+  perm-often (List·Permᴰ·trans p q) = perm-often p ∙ perm-often q
+
+-- the same commands in another order are each there as often
+pub often-perm : {cs ds : List Command} → List·Permᴰ cs ds → SameDone cs ds
+often-perm p d = perm-often d p

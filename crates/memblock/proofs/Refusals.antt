@@ -20,15 +20,18 @@ use Rattle.convert.specs.Convert.{goodOne, convert}
 use Rattle.tables.proofs.Answered.{Refuses, Stores, refuses-or-stores}
 use Rattle.convert.proofs.Converting.{convert-sentence}
 use Rattle.tables.proofs.Good.{was-good, command-good, trim-good, set-good, image-good, fresh-good}
-use Rattle.intake.specs.Turns.{inTurn, wholly}
+use Rattle.intake.specs.Turns.{Step, steps, inTurn, wholly}
 use Rattle.intake.specs.E820.{entries, readable, entrySteps, intakeE820}
 use Rattle.intake.proofs.Good.{intake-good}
+use Rattle.board.specs.Board as board
+use Rattle.board.specs.Board.{intakeTree}
+use Rattle.board.proofs.Good.{tree-good}
 use Rattle.fits.specs.declared.Query.{Query}
 use Rattle.fits.specs.declared.Place.{Place}
 use Rattle.fits.specs.declared.Place.the-variants.{Here, Nowhere}
 use Rattle.seek.specs.Search.{foundPlace, nextPlace}
 use Rattle.search.specs.Answers.{Answer, answer, refuse, unless as unlessAnswer, slipOf, withSlip, asking, askable, refusal, checkNumber, nextNumber, placeAnswer, find, allocate, allocateAnswer, reserved, nextFree}
-use Rattle.memblock.specs.Calls.{Call, toFresh, toSet, toSetImageEnd, toCommand, toTrim, toFind, toNextFree, toAllocate, toIntake, toConvert, plain, answerOf}
+use Rattle.memblock.specs.Calls.{Call, toFresh, toSet, toSetImageEnd, toCommand, toTrim, toFind, toNextFree, toAllocate, toIntake, toIntakeTree, toConvert, plain, answerOf}
 use Rattle.memblock.specs.Refusals.{slipLent, RefusalSentence, DoneSentence}
 
 -- ---- calls without a slip
@@ -87,20 +90,30 @@ module _ (b : List ℕ) where
         isGood = λ h. trim-good b (was-good (good current b) b _ h) align;
       }
 
+  -- steps in turn, whole or not at all
+  wholly-keeps : (ss : List Step) → Keeps b (wholly ss b)
+  unfolding wholly
+  wholly-keeps ss = go (eqb (inTurn ss b .number) 0) refl
+    where
+      go : (t : Bool) → eqb (inTurn ss b .number) 0 ≡ t → Keeps b (unless t (inTurn ss b .number) b (inTurn ss b))
+      go true e = λ d. absurd (d (eqb-true (inTurn ss b .number) 0 e))
+      go false e = λ d. refl
+
   intake-fair : (report : List ℕ) → FairOutcome b (intakeE820 current report b)
-  unfolding intakeE820 wholly
+  unfolding intakeE820
   intake-fair report =
       record {
-        keeps = unless-keeps (good current b) 1 b _ (unless-keeps (readable report) 10 b _ (whole (inTurn (entrySteps current (entries report)) b)));
+        keeps = unless-keeps (good current b) 1 b _ (unless-keeps (readable report) 10 b _ (wholly-keeps (entrySteps current (entries report))));
         isGood = λ h. intake-good report b (was-good (good current b) b _ h);
       }
-    where
-      whole : (o : Outcome) → Keeps b (unless (eqb (o .number) 0) (o .number) b o)
-      whole o = go (eqb (o .number) 0) refl
-        where
-          go : (t : Bool) → eqb (o .number) 0 ≡ t → Keeps b (unless t (o .number) b o)
-          go true e = λ d. absurd (d (eqb-true (o .number) 0 e))
-          go false e = λ d. refl
+
+  tree-fair : (tree : List ℕ) → FairOutcome b (intakeTree current tree b)
+  unfolding intakeTree
+  tree-fair tree =
+      record {
+        keeps = unless-keeps (good current b) 1 b _ (unless-keeps (board.readable tree) 11 b _ (wholly-keeps (steps current (board.asks tree))));
+        isGood = λ h. tree-good tree b (was-good (good current b) b _ h);
+      }
 
   convert-fair : (old : List ℕ) → FairOutcome b (convert old b)
   unfolding convert
@@ -203,6 +216,7 @@ fair (toFind q slip) b = find-fair b slip q
 fair (toNextFree from node wish slip) b = next-free-fair b slip _ _ _
 fair (toAllocate q slip) b = allocate-fair b slip q
 fair (toIntake report) b = plain-fair b _ (intake-fair b report)
+fair (toIntakeTree tree) b = plain-fair b _ (tree-fair b tree)
 fair (toConvert old) b = plain-fair b _ (convert-fair b old)
 
 pub refusal-sentence : RefusalSentence

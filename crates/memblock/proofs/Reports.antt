@@ -5,8 +5,6 @@ use mathlib.Core.Bool.{Bool, true, false, cond}
 use mathlib.Core.List.{List, [], _∷_, _++_, List·Permᴰ, List·Permᴰ·nil, List·Permᴰ·cons, List·Permᴰ·swap, List·Permᴰ·trans}
 use mathlib.Core.Logic.{inr}
 use native.Mathlib.Omega.{arith}
-use lib.Dec.{eqb}
-use borrow.Author.Tests.{eqb-false}
 use Rattle.block.specs.Block.{current}
 use Rattle.tables.specs.declared.commands.Verb.the-variants.{Add}
 use Rattle.range.specs.Outcomes.{Outcome, tag}
@@ -15,45 +13,13 @@ use Rattle.intake.specs.declared.e820.Entry.{Entry}
 use Rattle.intake.specs.declared.e820.Becomes.{Becomes}
 use Rattle.intake.specs.declared.e820.Becomes.the-variants.{Added, PassedOver}
 use Rattle.intake.specs.E820.{entries, becomes, commandsAs, entryCommands, commands, entrySteps}
-use Rattle.intake.specs.Turns.{steps, inTurn}
-use Rattle.intake.proofs.Turns.{turn-last}
+use Rattle.intake.specs.Turns.{Step, steps, inTurn}
 use Rattle.intake.proofs.ByKind.{all-adds}
 use Rattle.intake.proofs.Whole.{not-refused}
-use Rattle.memblock.specs.Calls.{outcomeOf}
 use Rattle.memblock.specs.Reports.{OrderPromise}
 use Rattle.memblock.specs.Lists.{run, done, Agreed, sameCall, often, SameDone}
 use Rattle.memblock.proofs.DemandThree.{demand-three}
-
--- ---- taken in, they are all done
-
--- o is what the commands and then trim answer and leave of b, and each command is done
-record AllDone (cs : List Command) (b : List ℕ) (o : Outcome) : Type 0 where
-  each : done cs b ≡ cs
-  ends : o ≡ trim current 4096 (run cs b)
-
-all-done : (es : List Entry) (b : List ℕ) → inTurn (entrySteps current es) b .number ≡ 0 → AllDone (commands es) b (inTurn (entrySteps current es) b)
-unfolding commands entrySteps inTurn run done
-all-done [] b h = record { each = refl; ends = turn-last (trim current 4096) b }
-all-done (e ∷ es) b h = go (becomes (e .kind)) h (all-done es)
-  where
-    go : (k : Becomes) → inTurn (steps current (commandsAs k e ++ commands es) ++ (trim current 4096 ∷ [])) b .number ≡ 0
-        → ((c : List ℕ) → inTurn (entrySteps current es) c .number ≡ 0 → AllDone (commands es) c (inTurn (entrySteps current es) c))
-        → AllDone (commandsAs k e ++ commands es) b (inTurn (steps current (commandsAs k e ++ commands es) ++ (trim current 4096 ∷ [])) b)
-    go PassedOver z ih = ih b z
-    go Added z ih = by (eqb (o .number) 0) refl z
-      where
-        add : Command
-        add = command (Add (tag 0 0)) (e .base .0) (e .size .0)
-
-        o : Outcome
-        o = outcomeOf add b
-
-        by : (t : Bool) → eqb (o .number) 0 ≡ t → cond t (inTurn (entrySteps current es) (o .block)) o .number ≡ 0
-            → AllDone (add ∷ commands es) b (cond t (inTurn (entrySteps current es) (o .block)) o)
-        by true f y =
-            let r = ih (o .block) y in
-            record { each = rw f (ap (λ (cs : List Command). add ∷ cs) (r .each)); ends = r .ends }
-        by false f y = absurd (eqb-false (o .number) 0 f y)
+use Rattle.memblock.proofs.InTurn.{all-done, first-zero, rest-is}
 
 -- ---- each command as often
 
@@ -84,15 +50,25 @@ module _ (d : Command) where
 
 -- ---- the order promise
 
+-- memory is trimmed at the end
+last : List Step
+last = trim current 4096 ∷ []
+
+in-steps : (r b : List ℕ) → inTurn (entrySteps current (entries r)) b .number ≡ 0 → inTurn (steps current (commands (entries r)) ++ last) b .number ≡ 0
+unfolding entrySteps last
+in-steps r b h = h
+
 pub intake-order : OrderPromise
+unfolding entrySteps last
 intake-order b r s p h k =
     let x = not-refused r b h in
     let y = not-refused s b k in
     let cs = commands (entries r) in
     let ds = commands (entries s) in
-    let m = all-done (entries r) b (x .number) in
-    let n = all-done (entries s) b (y .number) in
-    let agreed : Agreed (done cs b) = rw (m .each) (λ d e i j t. inr (all-adds (entries r) d i ∙ sym (all-adds (entries r) e j))) in
-    let same : SameDone (done cs b) (done ds b) = λ d. rw (m .each, n .each) (same-often d p) in
+    let m = all-done cs b (first-zero cs last b (in-steps r b (x .number))) .each in
+    let n = all-done ds b (first-zero ds last b (in-steps s b (y .number))) .each in
+    let agreed : Agreed (done cs b) = rw m (λ d e i j t. inr (all-adds (entries r) d i ∙ sym (all-adds (entries r) e j))) in
+    let same : SameDone (done cs b) (done ds b) = λ d. rw (m, n) (same-often d p) in
     let e : run ds b ≡ run cs b = demand-three b (x .isGood) cs agreed .order ds same in
-    ap (λ (o : Outcome). o .block) (x .outcome ∙ m .ends ∙ ap (trim current 4096) (sym e) ∙ sym (n .ends) ∙ sym (y .outcome))
+    ap (λ (o : Outcome). o .block)
+    (x .outcome ∙ rest-is cs last b (in-steps r b (x .number)) ∙ ap (inTurn last) (sym e) ∙ sym (rest-is ds last b (in-steps s b (y .number))) ∙ sym (y .outcome))

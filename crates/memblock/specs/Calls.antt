@@ -7,6 +7,7 @@ use Rattle.range.specs.Outcomes.{Outcome}
 use Rattle.tables.specs.Commands.{fresh, set, setImageEnd, Command, commandOutcome, trim}
 use Rattle.convert.specs.Convert.{convert}
 use Rattle.intake.specs.E820.{intakeE820}
+use Rattle.board.specs.Board.{intakeTree}
 use Rattle.fits.specs.declared.Query.{Query}
 use Rattle.search.specs.Answers.{Answer, answer, find, allocate, nextFree}
 
@@ -25,6 +26,7 @@ pub data Call : Type 0 where
   toNextFree : (from node wish : ℕ) → (slip : List ℕ) → Call
   toAllocate : Query → (slip : List ℕ) → Call
   toIntake : (report : List ℕ) → Call
+  toIntakeTree : (tree : List ℕ) → Call
   toConvert : (old : List ℕ) → Call
 
 -- a call without a slip leaves none
@@ -42,6 +44,7 @@ answerOf (toFind q slip) b = find current q b slip
 answerOf (toNextFree from node wish slip) b = nextFree current from node wish b slip
 answerOf (toAllocate q slip) b = allocate current q b slip
 answerOf (toIntake report) b = plain (intakeE820 current report b)
+answerOf (toIntakeTree tree) b = plain (intakeTree current tree b)
 answerOf (toConvert old) b = plain (convert old b)
 
 -- the answers of a list of calls, each on the block that the one before it left

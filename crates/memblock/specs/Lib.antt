@@ -6,3 +6,4 @@ pub mod Lists
 pub mod Refusals
 pub mod Cases
 pub mod Reports
+pub mod Trees

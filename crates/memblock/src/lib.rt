@@ -13,7 +13,7 @@ ghost use Rattle.search.specs.Answers.{answer};
 ghost use Rattle.tables.specs.declared.commands.Verb.the-variants.{Add, Remove, Mark, Unmark, Reserve, Free};
 ghost use Rattle.range.specs.Outcomes.{tag};
 ghost use Rattle.tables.specs.Commands.{command};
-ghost use Rattle.memblock.specs.Calls.{toFresh, toSet, toSetImageEnd, toCommand, toTrim, toFind, toNextFree, toAllocate, toIntake, toConvert, answerOf};
+ghost use Rattle.memblock.specs.Calls.{toFresh, toSet, toSetImageEnd, toCommand, toTrim, toFind, toNextFree, toAllocate, toIntake, toIntakeTree, toConvert, answerOf};
 
 // Writes a fresh block over any 15,440 bytes.
 #[no_mangle]
@@ -170,6 +170,14 @@ pub extern "C" fn memblock_intake_e820(block: &mut [u8], report: &[u8]) -> u32
     ensures { λ r. ⌜ answer r (now (block .exit)) [] ≡ answerOf (toIntake (now (report .entry))) (now (block .entry)) ⌝ }
 {
     intake::e820::intake(block, report)
+}
+
+// Takes a board's device tree in: memory, the reservation list, reserved children, marks; whole or not at all.
+#[no_mangle]
+pub extern "C" fn memblock_intake_tree(block: &mut [u8], board: &[u8]) -> u32
+    ensures { λ r. ⌜ answer r (now (block .exit)) [] ≡ answerOf (toIntakeTree (now (board .entry))) (now (block .entry)) ⌝ }
+{
+    board::taking::intake_tree(block, board)
 }
 
 // Writes what an edition 1 block says over any 15,440 bytes. The old block stays.

@@ -48,6 +48,8 @@ functions! {
         node: u32, wish: u32, slip: *mut u8, slip_len: usize);
     has_memblock_intake_e820 => memblock_intake_e820(
         block: *mut u8, len: usize, report: *const u8, report_len: usize);
+    has_memblock_intake_tree => memblock_intake_tree(
+        block: *mut u8, len: usize, board: *const u8, board_len: usize);
     has_memblock_convert => memblock_convert(
         old: *const u8, old_len: usize, block: *mut u8, len: usize);
 }

@@ -20,13 +20,14 @@ pub enum Command {
     Find,
     Allocate,
     Intake,
+    IntakeTree,
     Convert,
 }
 
 use Command::*;
 
 impl Command {
-    pub const ALL: [Command; 15] = [
+    pub const ALL: [Command; 16] = [
         Fresh,
         Set,
         SetImageEnd,
@@ -41,6 +42,7 @@ impl Command {
         Find,
         Allocate,
         Intake,
+        IntakeTree,
         Convert,
     ];
 
@@ -63,11 +65,12 @@ impl Command {
             Find => "memblock_find",
             Allocate => "memblock_allocate",
             Intake => "memblock_intake_e820",
+            IntakeTree => "memblock_intake_tree",
             Convert => "memblock_convert",
         }
     }
 
-    /// The numbers that document 01 and requests E1, E4, E6, E7 and E10 allow.
+    /// The numbers that document 01 and requests E1, E4, E6 to E8 and E10 allow.
     pub fn allowed(self) -> &'static [u32] {
         match self {
             Fresh | SetImageEnd | Convert => &[0, 1],
@@ -80,6 +83,7 @@ impl Command {
             Find => &[0, 8, 1, 2, 3, 4, 5],
             Allocate => &[0, 8, 1, 2, 3, 4, 5, 6],
             Intake => &[0, 1, 10, 6],
+            IntakeTree => &[0, 1, 11, 6],
         }
     }
 
@@ -137,6 +141,8 @@ pub enum Call {
     Allocate(Query),
     /// With the report's bytes.
     Intake(Arc<[u8]>),
+    /// With the tree's bytes.
+    IntakeTree(Arc<[u8]>),
     /// With the old block's bytes.
     Convert(Arc<[u8]>),
 }
@@ -154,15 +160,16 @@ impl Call {
             Call::Find(_) => Find,
             Call::Allocate(_) => Allocate,
             Call::Intake(_) => Intake,
+            Call::IntakeTree(_) => IntakeTree,
             Call::Convert(_) => Convert,
         }
     }
 
-    /// The bytes that the call only reads, a report or an old block; none for
+    /// The bytes that the call only reads, a report, a tree or an old block; none for
     /// other commands.
     pub fn source(&self) -> &[u8] {
         match self {
-            Call::Intake(source) | Call::Convert(source) => source,
+            Call::Intake(source) | Call::IntakeTree(source) | Call::Convert(source) => source,
             _ => &[],
         }
     }
@@ -204,6 +211,7 @@ impl Call {
                 ("wish", q.wish.into()),
             ],
             Call::Intake(ref report) => vec![("report_length", report.len() as u64)],
+            Call::IntakeTree(ref board) => vec![("board_length", board.len() as u64)],
             Call::Convert(ref old) => vec![("old_length", old.len() as u64)],
         };
         let numbers: Vec<String> = numbers
@@ -249,6 +257,7 @@ impl Call {
             Call::Find(query) => model::find(block, &query, slip),
             Call::Allocate(query) => model::allocate(block, &query, slip),
             Call::Intake(ref report) => model::intake_e820(block, report),
+            Call::IntakeTree(ref board) => model::intake_tree(block, board),
             Call::Convert(ref old) => model::convert(old, block),
         }
     }
@@ -319,6 +328,7 @@ impl Call {
                     slip_len,
                 ),
                 Call::Intake(_) => archive::memblock_intake_e820(b, len, from, from_len),
+                Call::IntakeTree(_) => archive::memblock_intake_tree(b, len, from, from_len),
                 Call::Convert(_) => archive::memblock_convert(from, from_len, b, len),
             }
         }

@@ -1,12 +1,16 @@
-//! The twelve cases of document 01 and those of requests E1, E3 to E7 and E10, run
+//! The twelve cases of document 01 and those of requests E1, E3 to E8 and E10, run
 //! through the archive.
 
 use crate::blocks::{get_u64, read_recs};
 use crate::call::{Call, Command};
 use crate::desk::Desk;
 use crate::reports::{self, Entry};
+use crate::rng::Rng;
 use model::layout::*;
 use model::Query;
+use trees::node::{reg, word};
+use trees::random::chain;
+use trees::{stored, Break, Node, Sketch, Tree};
 
 const TOP_DOWN: u32 = 0;
 const BOTTOM_UP: u32 = 1;
@@ -97,6 +101,18 @@ impl Case<'_> {
 
     fn intake_bytes(&mut self, report: &[u8], number: u32) {
         self.does(Call::Intake(report.into()), number);
+    }
+
+    fn intake_tree(&mut self, tree: &Tree, number: u32) {
+        self.intake_tree_bytes(&Sketch::of(tree).bytes(), number);
+    }
+
+    fn intake_tree_bytes(&mut self, board: &[u8], number: u32) {
+        let before = self.block.clone();
+        self.does(Call::IntakeTree(board.into()), number);
+        if number != 0 {
+            self.expect("block", self.block.clone(), before);
+        }
     }
 
     fn convert(&mut self, old: &[u8], number: u32) {
@@ -198,7 +214,7 @@ fn query(size: u64, alignment: u64) -> Query {
 }
 
 pub fn run(desk: &mut Desk) -> u32 {
-    let cases: [fn(&mut Desk); 59] = [
+    let cases: [fn(&mut Desk); 68] = [
         printed,
         one,
         two_and_three,
@@ -258,6 +274,15 @@ pub fn run(desk: &mut Desk) -> u32 {
         free_at_the_top,
         free_and_full_table,
         free_alone_asks,
+        tree_stored,
+        tree_by_its_records,
+        tree_broken,
+        tree_depth,
+        tree_order,
+        tree_list_before_reserved,
+        tree_full,
+        tree_numbers,
+        tree_at_the_edges,
     ];
     for (turn, case) in cases.iter().enumerate() {
         desk.turn = turn as u64;
@@ -1703,4 +1728,202 @@ fn free_alone_asks(desk: &mut Desk) {
     c.mark(0x30000, 0x1000, NO_MAP, 0);
     c.unmark(0x20000, 1, HOTPLUG, 0);
     c.expect("block", c.block.clone(), start);
+}
+
+/// A tree of these children of the root, by cells 2 and 2.
+fn tree(children: &[Node]) -> Tree {
+    let root = Node::new("")
+        .with("#address-cells", word(2))
+        .with("#size-cells", word(2));
+    Tree {
+        list: Vec::new(),
+        root: children
+            .iter()
+            .fold(root, |root, child| root.holding(child.clone())),
+    }
+}
+
+fn memory_node(ranges: &[(u64, u64)]) -> Node {
+    Node::memory("memory", reg((2, 2), ranges))
+}
+
+/// A /reserved-memory with a node of these ranges.
+fn reserved_node(ranges: &[(u64, u64)]) -> Node {
+    Node::new("reserved-memory").holding(Node::new("buffer").with("reg", reg((2, 2), ranges)))
+}
+
+fn no_map_node(ranges: &[(u64, u64)]) -> Node {
+    let child = Node::new("buffer").with("reg", reg((2, 2), ranges));
+    Node::new("reserved-memory").holding(child.with("no-map", []))
+}
+
+/// So many ranges of one address, none touching.
+fn apart(from: u64, count: u64) -> Vec<(u64, u64)> {
+    (0..count).map(|i| (from + 2 * i, 1)).collect()
+}
+
+/// Each stored tree by the commands worked out for it.
+fn tree_stored(desk: &mut Desk) {
+    for stored in stored::all() {
+        let mut c = Case::new(desk);
+        for line in stored.expected.lines() {
+            let words: Vec<&str> = line.split(' ').collect();
+            let number = |i: usize| -> u64 {
+                let word = words[i];
+                match word.strip_prefix("0x") {
+                    Some(digits) => u64::from_str_radix(digits, 16),
+                    None => word.parse(),
+                }
+                .expect("a number")
+            };
+            let (base, size) = (number(1), number(2));
+            match words[0] {
+                "add" => c.add(base, size, number(3) as u32),
+                "reserve" => c.range(Command::Reserve, base, size, 0),
+                "mark" => c.mark(base, size, NO_MAP, 0),
+                other => unreachable!("{other} is no command of a tree"),
+            }
+        }
+        let by_calls = c.block.clone();
+        let mut c = Case::new(desk);
+        c.intake_tree_bytes(stored.bytes, 0);
+        c.expect(stored.name, c.block.clone(), by_calls);
+    }
+}
+
+/// Nodes, a list, what is reserved and what is marked, on a block that holds something.
+fn tree_by_its_records(desk: &mut Desk) {
+    let mut c = Case::new(desk);
+    c.add_tag(0x3000, 0x1000, (MIRROR, 9), 0);
+    c.image(0x1234);
+    let mut tree = tree(&[
+        no_map_node(&[(0x2800, 0x1000)]),
+        memory_node(&[(0x1001, 0x2fff)]).with("numa-node-id", word(63)),
+        reserved_node(&[(0x1800, 0x10), (0x1900, 0)]),
+        memory_node(&[(0, 0x5000)]),
+    ]);
+    tree.list = vec![(0x20, 0), (0, 0x10), (u64::MAX - 1, 0x100)];
+    c.intake_tree(&tree, 0);
+    c.table(
+        &MEMORY,
+        &[
+            (0, 0x1001, 0, 0),
+            (0x1001, 0x17ff, 0, 63),
+            (0x2800, 0x800, NO_MAP, 63),
+            (0x3000, 0x800, MIRROR + NO_MAP, 9),
+            (0x3800, 0x800, MIRROR, 9),
+            (0x4000, 0x1000, 0, 0),
+        ],
+    );
+    c.table(
+        &TAKEN,
+        &[
+            (0, 0x10, 0, 0),
+            (0x1800, 0x10, 0, 0),
+            (u64::MAX - 1, 1, 0, 0),
+        ],
+    );
+    c.expect("image end", get_u64(&c.block, IMAGE_END_AT), 0x1234);
+}
+
+/// Each condition broken, each in several ways.
+fn tree_broken(desk: &mut Desk) {
+    let mut whole = tree(&[
+        memory_node(&[(0x10000, 0x10000)]).with("numa-node-id", word(3)),
+        Node::new("soc").holding(Node::new("serial").with("reg", [0; 7])),
+        reserved_node(&[(0x12000, 0x1000)]),
+        no_map_node(&[(0x14000, 0x1000)]),
+    ]);
+    whole.list = vec![(0x11000, 0x800)];
+    let mut c = Case::new(desk);
+    c.intake_tree(&whole, 0);
+    for broken in Break::ALL {
+        for turn in 0..12 {
+            let mut rng = Rng::new(turn, "cases", broken as u64);
+            c.intake_tree_bytes(&broken.done_to(&mut rng, &whole), 11);
+        }
+    }
+}
+
+fn tree_depth(desk: &mut Desk) {
+    for (levels, number) in [(14, 0), (15, 0), (16, 11), (17, 11)] {
+        let mut c = Case::new(desk);
+        c.intake_tree(&tree(&[chain(levels), memory_node(&[(0, 1)])]), number);
+        let mut reserved = reserved_node(&[(0, 1)]);
+        reserved.children.push(chain(levels - 1));
+        c.intake_tree(&tree(&[reserved]), number);
+    }
+}
+
+/// What two nodes name keeps the tag of the first; marks come last, wherever they stand.
+fn tree_order(desk: &mut Desk) {
+    let node = |id| memory_node(&[(0x1000, 0x1000)]).with("numa-node-id", word(id));
+    for (first, second) in [(1, 2), (2, 1)] {
+        let mut c = Case::new(desk);
+        let marks = no_map_node(&[(0, u64::MAX)]);
+        c.intake_tree(&tree(&[marks, node(first), node(second)]), 0);
+        c.table(&MEMORY, &[(0x1000, 0x1000, NO_MAP, first)]);
+    }
+}
+
+/// In a full table one of two takes a record more, and the other makes room for it.
+fn tree_list_before_reserved(desk: &mut Desk) {
+    let (apart, joins) = ((1 << 40, 1), (0x1000, 0x1000));
+    for (list, child, number) in [(apart, joins, 6), (joins, apart, 0)] {
+        let mut c = taken_comb(desk);
+        let mut tree = tree(&[reserved_node(&[child])]);
+        tree.list = vec![list];
+        c.intake_tree(&tree, number);
+    }
+}
+
+/// Each table filled by each kind of command, and one more.
+fn tree_full(desk: &mut Desk) {
+    let (memory, taken) = (MEMORY.capacity as u64, TAKEN.capacity as u64);
+    for (more, number) in [(0, 0), (1, 6)] {
+        let mut c = Case::new(desk);
+        c.intake_tree(&tree(&[memory_node(&apart(0, memory + more))]), number);
+        let mut c = Case::new(desk);
+        c.intake_tree(&tree(&[reserved_node(&apart(0, taken + more))]), number);
+        let mut c = Case::new(desk);
+        let mut listed = tree(&[memory_node(&[(0, 1)])]);
+        listed.list = apart(1, taken + more);
+        c.intake_tree(&listed, number);
+        let mut c = Case::new(desk);
+        let all = memory_node(&[(0, memory + 2 * more)]);
+        let marks = no_map_node(&apart(0, memory / 2 + more));
+        c.intake_tree(&tree(&[marks, all]), number);
+    }
+    // What comes later makes no room.
+    let mut c = Case::new(desk);
+    let first = memory_node(&apart(0, memory + 1));
+    c.intake_tree(&tree(&[first, memory_node(&[(0, 1 << 20)])]), 6);
+}
+
+/// 1 before 11 before 6.
+fn tree_numbers(desk: &mut Desk) {
+    let full = tree(&[memory_node(&apart(0, 200))]);
+    let mut wrong = full.clone();
+    let node = memory_node(&[]).with("numa-node-id", word(64));
+    wrong.root.children.push(node);
+    let mut c = Case::new(desk);
+    c.intake_tree(&full, 6);
+    c.intake_tree(&wrong, 11);
+    c.intake_tree_bytes(&[], 11);
+    c.block[0] = 0;
+    c.intake_tree(&full, 1);
+    c.intake_tree(&wrong, 1);
+    c.intake_tree_bytes(&[], 1);
+}
+
+/// At both ends of the space, nothing is trimmed.
+fn tree_at_the_edges(desk: &mut Desk) {
+    let top = u64::MAX;
+    let mut c = Case::new(desk);
+    let ranges = [(0, 1), (top, top), (top - 4, 4), (top - 1, top), (5, 0)];
+    let mut tree = tree(&[memory_node(&ranges), no_map_node(&[(1, top)])]);
+    tree.list = vec![(top, 1), (0, top)];
+    c.intake_tree(&tree, 0);
+    c.table(&MEMORY, &[(0, 1, 0, 0), (top - 4, 4, NO_MAP, 0)]);
+    c.table(&TAKEN, &[(0, top, 0, 0)]);
 }

@@ -234,7 +234,7 @@ impl Desk {
             ("block", &mut self.block_room, &*block, &before[..]),
             ("slip", &mut self.slip_room, &*slip, &slip_before),
             (
-                "report or old block",
+                "report, tree or old block",
                 &mut self.source_room,
                 call.source(),
                 call.source(),
@@ -262,6 +262,7 @@ impl Desk {
             eprintln!("{}", describe(&before));
             match command {
                 Command::Intake => eprint!("{}", entries(call.source())),
+                Command::IntakeTree => eprint!("{}", tree(call.source())),
                 Command::Convert => eprintln!("{}", describe_old(call.source())),
                 _ => {}
             }
@@ -366,6 +367,30 @@ fn entries(report: &[u8]) -> String {
     }
     if more > 0 {
         text += &format!("  and {more} more\n");
+    }
+    text
+}
+
+/// What the model makes of a tree, and its bytes, if they are few.
+fn tree(bytes: &[u8]) -> String {
+    let mut text = match model::tree::asks(bytes) {
+        Ok(asks) => {
+            let more = asks.len().saturating_sub(12);
+            let first: Vec<String> = asks
+                .iter()
+                .take(12)
+                .map(|a| format!("  {a:x?}\n"))
+                .collect();
+            format!("{}  and {more} more\n", first.concat())
+        }
+        Err(faults) => format!("  the tree has {faults:?}\n"),
+    };
+    for line in bytes.chunks(32).take(64) {
+        let words: Vec<String> = line
+            .chunks(4)
+            .map(|word| word.iter().map(|b| format!("{b:02x}")).collect())
+            .collect();
+        text += &format!("  {}\n", words.join(" "));
     }
     text
 }

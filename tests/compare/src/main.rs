@@ -1,5 +1,5 @@
 //! Calls the archive and the model on equal bytes and compares the number and
-//! every byte of block, slip, report and old block. See README.md.
+//! every byte of block, slip, report, tree and old block. See README.md.
 
 mod archive;
 mod blocks;
@@ -7,6 +7,7 @@ mod call;
 mod cases;
 mod desk;
 mod editions;
+mod flattened;
 mod frees;
 mod images;
 mod limits;
@@ -14,7 +15,6 @@ mod lists;
 mod numbers;
 mod orders;
 mod reports;
-mod rng;
 mod runs;
 mod wishes;
 
@@ -24,6 +24,7 @@ use desk::Desk;
 use model::layout::*;
 use numbers::{slip, Near};
 use rng::Rng;
+use trees::rng;
 
 /// One pair of orders is asked for in this many calls of the lists' part.
 const CALLS_PER_PAIR: u64 = 50;
@@ -31,9 +32,13 @@ const CALLS_PER_PAIR: u64 = 50;
 /// One pair of orders of a report is asked for in this many calls of their part.
 const CALLS_PER_REPORT_PAIR: u64 = 5;
 
+/// One tree that is read is asked for in this many calls of their part.
+const CALLS_PER_TREE: u64 = 60;
+
 /// In the order of a whole run: what finds most in few calls comes first.
-const PARTS: [&str; 9] = [
-    "cases", "faults", "lengths", "editions", "damage", "fills", "lists", "orders", "walks",
+const PARTS: [&str; 10] = [
+    "cases", "faults", "lengths", "editions", "damage", "trees", "fills", "lists", "orders",
+    "walks",
 ];
 
 struct Options {
@@ -134,7 +139,7 @@ fn main() {
             "cases" => {
                 let cases = cases::run(desk);
                 println!(
-                    "cases: all {cases} of document 01 and those of requests E1, E3 to E7 and E10, {} calls",
+                    "cases: all {cases} of document 01 and those of requests E1, E3 to E8 and E10, {} calls",
                     desk.calls
                 );
             }
@@ -142,9 +147,10 @@ fn main() {
             "orders" => orders(desk, options.share(4)),
             "lengths" => lengths(desk, &there, options.share(4)),
             "editions" => editions(desk, &there, options.share(3)),
-            "damage" => damage(desk, &there, options.share(14)),
+            "damage" => damage(desk, &there, options.share(13)),
+            "trees" => trees(desk, options.share(6)),
             "faults" => faults(desk, &there, options.share(8)),
-            "fills" => fills(desk, &there, options.share(26)),
+            "fills" => fills(desk, &there, options.share(25)),
             _ => walks(desk, options.calls.saturating_sub(desk.calls)),
         }
     }
@@ -343,6 +349,46 @@ fn orders(desk: &mut Desk, calls: u64) {
             floor / 20,
         ),
         ("reports refused in all orders", tally.refused, floor / 20),
+    ] {
+        if count < floor {
+            stop(&format!(
+                "only {count} {what} were met, at least {floor} asked for"
+            ));
+        }
+    }
+}
+
+/// Flattened trees.
+fn trees(desk: &mut Desk, calls: u64) {
+    if !Command::IntakeTree.is_there() {
+        println!("trees: no intake of a tree in the archive");
+        return;
+    }
+    let before = desk.calls;
+    let tally = flattened::run(desk, before + calls);
+    let rarest = |counts: &[u64]| *counts.iter().min().expect("there are some");
+    println!(
+        "trees: {} calls, {} trees read as their commands by calls ({} refused with 6), {} quirks \
+         each met {} times at least; {} ways of breaking one each {} times; {} cut off at a byte; \
+         damaged anyhow {} read and {} not; {} with a bad block",
+        desk.calls - before,
+        tally.by_calls,
+        tally.full,
+        tally.quirks.len(),
+        rarest(&tally.quirks),
+        tally.broken.len(),
+        rarest(&tally.broken),
+        tally.cut,
+        tally.damaged[0],
+        tally.damaged[1],
+        tally.bad_blocks,
+    );
+    let floor = calls / CALLS_PER_TREE;
+    for (what, count, floor) in [
+        ("trees read", tally.by_calls, floor),
+        ("trees refused with 6", tally.full, floor / 50),
+        ("damaged trees read", tally.damaged[0], floor / 20),
+        ("damaged trees not read", tally.damaged[1], floor / 20),
     ] {
         if count < floor {
             stop(&format!(
@@ -574,6 +620,7 @@ fn walks(desk: &mut Desk, calls: u64) {
                 call::Call::Convert(_) => rng.one_in(8),
                 call::Call::Trim { alignment } => alignment <= 4096 || rng.one_in(8),
                 call::Call::Intake(_) => rng.one_in(3),
+                call::Call::IntakeTree(_) => rng.one_in(2),
                 call::Call::Range { size, .. } | call::Call::Mark { size, .. } => {
                     size < 1 << 62 || rng.one_in(4)
                 }

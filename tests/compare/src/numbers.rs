@@ -3,6 +3,7 @@
 use crate::blocks::{get_u64, read_recs, some_flags, Rec};
 use crate::call::{Call, Command};
 use crate::editions;
+use crate::flattened;
 use crate::reports;
 use crate::rng::Rng;
 use model::layout::*;
@@ -161,6 +162,23 @@ impl Near {
             _ => (inside, inside),
         };
         (from, to.saturating_sub(from))
+    }
+
+    /// Of a full taken table a range that makes two records one, and one that touches
+    /// none.
+    pub fn joining_and_apart(&self, rng: &mut Rng) -> Option<[(u64, u64); 2]> {
+        if self.taken.len() < TAKEN.capacity {
+            return None;
+        }
+        let gaps: Vec<(u64, u64)> = (self.taken.windows(2))
+            .map(|two| (two[0].end(), two[1].base - two[0].end()))
+            .collect();
+        let wide: Vec<(u64, u64)> = gaps.iter().copied().filter(|gap| gap.1 > 2).collect();
+        if wide.is_empty() {
+            return None;
+        }
+        let apart = rng.pick(&wide);
+        Some([rng.pick(&gaps), (apart.0 + 1, apart.1 - 2)])
     }
 
     /// The parts of the taken records between two addresses.
@@ -370,6 +388,7 @@ impl Near {
             Command::Find => Call::Find(self.query(rng, faults)),
             Command::Allocate => Call::Allocate(self.query(rng, faults)),
             Command::Intake => Call::Intake(reports::some(rng, self, faults).into()),
+            Command::IntakeTree => Call::IntakeTree(flattened::some(rng, self, faults).into()),
             Command::Convert => Call::Convert(editions::some_old(rng, faults).into()),
             Command::Mark | Command::Unmark => {
                 let (base, size) = self.range(rng);

@@ -224,6 +224,16 @@ impl Board {
         self.write_as(&CURRENT)
     }
 
+    /// Whether both tables have room for what is said, or the number.
+    pub fn fits(&self) -> Result<(), u32> {
+        let present = self.memory.stretches().filter(|s| s.2.is_some()).count();
+        let taken = self.taken.stretches().filter(|s| s.2).count();
+        if present > MEMORY.capacity || taken > TAKEN.capacity {
+            return Err(number::TABLE_FULL);
+        }
+        Ok(())
+    }
+
     fn write_as(&self, layout: &Layout) -> Result<Vec<u8>, u32> {
         let mut block = vec![0; layout.length()];
         put(&mut block, 0, &layout.edition.to_le_bytes());

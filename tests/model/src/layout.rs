@@ -116,6 +116,57 @@ pub const USABLE: u32 = 1;
 /// Memory is trimmed by this at the end of an intake.
 pub const INTAKE_STEP: u64 = 4096;
 
+/// A flattened tree, since request E8: big-endian words.
+pub mod tree {
+    pub const WORD_LEN: usize = 4;
+    pub const HEADER_LEN: usize = 40;
+    pub const MAGIC: usize = 0xD00D_FEED;
+    pub const VERSION: usize = 17;
+    pub const COMPATIBLE: usize = 16;
+
+    /// Where the header's other words stand that matter.
+    pub const TOTAL_SIZE_AT: usize = 4;
+    pub const STRUCTURE_AT: usize = 8;
+    pub const STRINGS_AT: usize = 12;
+    pub const LIST_AT: usize = 16;
+    pub const VERSION_AT: usize = 20;
+    pub const COMPATIBLE_AT: usize = 24;
+    pub const STRINGS_LENGTH_AT: usize = 32;
+    pub const STRUCTURE_LENGTH_AT: usize = 36;
+
+    /// The reservation list: pairs of u64.
+    pub const PAIR_LEN: usize = 16;
+    pub const LIST_ALIGNMENT: usize = 8;
+
+    /// The tokens of the structure block.
+    pub const BEGIN: usize = 1;
+    pub const END: usize = 2;
+    pub const PROPERTY: usize = 3;
+    pub const NOP: usize = 4;
+    pub const STOP: usize = 9;
+
+    /// The deepest level of a node, the root's being 1.
+    pub const DEPTH: i64 = 16;
+
+    /// Names of properties, each with its zero.
+    pub const ADDRESS_CELLS: &[u8] = b"#address-cells\0";
+    pub const SIZE_CELLS: &[u8] = b"#size-cells\0";
+    pub const DEVICE_TYPE: &[u8] = b"device_type\0";
+    pub const REG: &[u8] = b"reg\0";
+    pub const NODE_ID: &[u8] = b"numa-node-id\0";
+    pub const NO_MAP_NAME: &[u8] = b"no-map\0";
+    /// The `device_type` of memory.
+    pub const MEMORY_TYPE: &[u8] = b"memory\0";
+    /// The name of a node whose children are reserved or marked.
+    pub const RESERVED_MEMORY: &[u8] = b"reserved-memory";
+
+    /// What the root's cells may be, and what they are when absent.
+    pub const CELLS: std::ops::RangeInclusive<u32> = 1..=2;
+    pub const DEFAULT_ADDRESS_CELLS: u32 = 2;
+    pub const DEFAULT_SIZE_CELLS: u32 = 1;
+    pub const LAST_NODE: u32 = super::NODES - 1;
+}
+
 /// The numbers the boot code gets back.
 pub mod number {
     pub const DONE: u32 = 0;
@@ -128,5 +179,6 @@ pub mod number {
     pub const BAD_DIRECTION: u32 = 7;
     pub const BAD_SLIP: u32 = 8;
     pub const BAD_REPORT: u32 = 10;
+    pub const BAD_TREE: u32 = 11;
     pub const NOT_TAKEN: u32 = 12;
 }

@@ -1,8 +1,8 @@
 //! A second program for the memory tables of document 01, the E820 intake of
 //! request E1, the limit of request E3, the larger block of request E4, the run's
 //! end of request E5, the flags and wishes of request E6, the image end of request
-//! E7 and the frees of request E10, written from those pages alone, to be compared
-//! with the library call by call.
+//! E7, the tree of request E8 and the frees of request E10, written from those pages
+//! alone, to be compared with the library call by call.
 //!
 //! It shares no idea with a program that walks tables of records: a table is a
 //! map from boundary points to states, a search looks at whole free runs and
@@ -13,6 +13,7 @@ pub mod layout;
 
 mod board;
 mod line;
+pub mod tree;
 
 pub use board::{covered, Board, Direction, Flag, Run, Tag, Wish};
 pub use line::Line;
@@ -20,6 +21,7 @@ pub use line::Line;
 use board::{long, narrow, word};
 use layout::number::*;
 use layout::*;
+use tree::Ask;
 
 /// What find and allocate are asked for.
 #[derive(Clone, Copy, Debug, PartialEq, Eq, Hash)]
@@ -131,6 +133,30 @@ pub fn intake_e820(block: &mut [u8], report: &[u8]) -> u32 {
             }
         }
         whole_steps(&mut board, step(INTAKE_STEP)?);
+        Ok(board)
+    });
+    settle(block, after)
+}
+
+/// Does what a flattened tree asks for, one command after the other.
+pub fn intake_tree(block: &mut [u8], bytes: &[u8]) -> u32 {
+    let after = good(block).and_then(|mut board| {
+        for ask in tree::asks(bytes).map_err(|_| BAD_TREE)? {
+            match ask {
+                Ask::Add { base, size, node } => put_in(&mut board, base, size, Tag::plain(node)),
+                Ask::Reserve { base, size } => {
+                    let (lo, hi) = covered(base, size);
+                    board.taken.paint(lo, hi, |_| true);
+                }
+                Ask::Mark { base, size } => {
+                    let (lo, hi) = covered(base, size);
+                    let marked = |tag: Tag| tag.with(Flag::NoMap, true);
+                    board.memory.paint(lo, hi, |old| old.map(marked));
+                }
+            }
+            // 6 speaks of each step.
+            board.fits()?;
+        }
         Ok(board)
     });
     settle(block, after)

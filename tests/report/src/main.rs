@@ -1,15 +1,22 @@
-//! What the report program should print, by the second program.
+//! What the programs on files should print, by the second program.
 //!
 //! `report FILE` takes the report file in on a fresh block and prints the number
-//! and every record of both tables. `report --bytes TEXT` writes the bytes of a
-//! report kept as text: an entry a line, `base length kind`, each decimal or with
-//! 0x; `raw` and hexadecimal bytes for any others; `#` begins a comment.
-//! `report --text FILE` writes a report's entries as such text.
+//! and every record of both tables. `report --tree FILE` does so with a device tree,
+//! `report --commands TEXT` with commands as tests/trees/expected has them, of which
+//! none may be refused.
+//!
+//! `report --bytes TEXT` writes the bytes of a report kept as text: an entry a line,
+//! `base length kind`, each decimal or with 0x; `raw` and hexadecimal bytes for any
+//! others; `#` begins a comment. `report --text FILE` writes a report's entries as
+//! such text. `report --crowded MEMORY TAKEN` writes a tree of so many ranges of memory
+//! and so many reservations, each apart from the others.
 
-use model::layout::{BLOCK_LEN, REPORT_ENTRY_LEN};
+use model::layout::{BLOCK_LEN, NO_MAP, REPORT_ENTRY_LEN};
 use model::Board;
 use std::io::Write;
 use std::process::ExitCode;
+use trees::node::reg;
+use trees::{Node, Sketch, Tree};
 
 fn main() -> ExitCode {
     let arguments: Vec<String> = std::env::args().skip(1).collect();
@@ -17,7 +24,10 @@ fn main() -> ExitCode {
     let (name, made) = match arguments[..] {
         ["--bytes", name] => (name, read(name).and_then(|text| bytes(&text))),
         ["--text", name] => (name, read(name).and_then(|report| text(&report))),
-        [name] => (name, read(name).map(|report| printed(&report))),
+        ["--crowded", memory, taken] => ("--crowded", crowded(memory, taken)),
+        ["--commands", name] => (name, read(name).and_then(|text| commanded(&text))),
+        ["--tree", name] => (name, taken_in(name, model::intake_tree)),
+        [name] => (name, taken_in(name, model::intake_e820)),
         _ => {
             eprintln!("usage: report FILE");
             return ExitCode::from(2);
@@ -38,12 +48,44 @@ fn read(name: &str) -> Result<Vec<u8>, String> {
     std::fs::read(name).map_err(|e| e.to_string())
 }
 
-/// The number on a line, then the records of memory, then those taken.
-fn printed(report: &[u8]) -> Vec<u8> {
+fn fresh() -> Vec<u8> {
     let mut block = vec![0; BLOCK_LEN];
     model::fresh(&mut block);
-    let number = model::intake_e820(&mut block, report);
-    let board = Board::read(&block).expect("a good block");
+    block
+}
+
+/// What is printed of a file that is taken in on a fresh block.
+fn taken_in(name: &str, intake: fn(&mut [u8], &[u8]) -> u32) -> Result<Vec<u8>, String> {
+    let bytes = read(name)?;
+    let mut block = fresh();
+    let number = intake(&mut block, &bytes);
+    Ok(printed(number, &block))
+}
+
+/// What is printed of commands made on a fresh block, a line each.
+fn commanded(text: &[u8]) -> Result<Vec<u8>, String> {
+    let text = std::str::from_utf8(text).map_err(|e| e.to_string())?;
+    let mut block = fresh();
+    for line in text.lines() {
+        let wrong = || line.to_string();
+        let (command, numbers) = line.split_once(' ').ok_or_else(wrong)?;
+        let numbers: Option<Vec<u64>> = numbers.split(' ').map(number).collect();
+        let answer = match (command, &numbers.ok_or_else(wrong)?[..]) {
+            ("add", &[base, size, node]) => model::add(&mut block, base, size, 0, node as u32),
+            ("reserve", &[base, size]) => model::reserve(&mut block, base, size),
+            ("mark", &[base, size]) => model::mark(&mut block, base, size, NO_MAP),
+            _ => return Err(wrong()),
+        };
+        if answer != 0 {
+            return Err(format!("{line}: {answer}"));
+        }
+    }
+    Ok(printed(0, &block))
+}
+
+/// The number on a line, then the records of memory, then those taken.
+fn printed(number: u32, block: &[u8]) -> Vec<u8> {
+    let board = Board::read(block).expect("a good block");
     let mut lines = vec![number.to_string()];
     for (lo, hi, tag) in board.memory.stretches() {
         if let Some(tag) = tag {
@@ -57,6 +99,18 @@ fn printed(report: &[u8]) -> Vec<u8> {
         }
     }
     (lines.join("\n") + "\n").into()
+}
+
+/// A tree of so many ranges of memory, by cells 2 and 1, and so many reservations.
+fn crowded(memory: &str, taken: &str) -> Result<Vec<u8>, String> {
+    let ranges = |count: &str| -> Result<Vec<(u64, u64)>, String> {
+        let count = number(count).ok_or("no number")?;
+        Ok((1..=count).map(|i| (0x2000 * i, 0x1000)).collect())
+    };
+    let memory = Node::memory("memory", reg((2, 1), &ranges(memory)?));
+    let root = Node::new("").holding(memory);
+    let list = ranges(taken)?;
+    Ok(Sketch::of(&Tree { list, root }).bytes())
 }
 
 /// The bytes of a report kept as text.

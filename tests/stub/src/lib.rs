@@ -5,6 +5,8 @@
 //! STUB_MUTANT names one planted fault by its number; each fault is one line
 //! `// mutant N: what is wrong` beside the code it changes.
 
+mod tree;
+
 use std::sync::atomic::{AtomicU32, AtomicU64, Ordering};
 use std::sync::{Mutex, MutexGuard, OnceLock};
 

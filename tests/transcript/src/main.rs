@@ -1,12 +1,12 @@
 //! Replays the boot program's transcript on the second program, line by line.
 //!
 //! `transcript NAME FILE`. For each call the line that the second program would
-//! have written, with its number, its block's sum and its slip, or its report's or
+//! have written, with its number, its block's sum and its slip, or its report's, tree's or
 //! old block's sum, must be the line that stands there; the same for both tables at the end.
 //! Fails at the first difference, at a line it does not know, and when the
-//! transcript does not reach its end or leaves out a function, a number, a flag, a
-//! wish, a way that a bottom-up allocation can go from the image's end, a second free
-//! of one range, or part of the memory map.
+//! transcript does not reach its end or leaves out a function, a number, a number of a
+//! tree's intake, a flag, a wish, a way that a bottom-up allocation can go from the image's
+//! end, a second free of one range, or part of the memory map.
 
 use model::layout::*;
 use model::{Board, Direction, Query};
@@ -23,7 +23,10 @@ const LEGACY: (u64, u64) = (0xa0000, 0x60000);
 /// The report's bytes: room for one entry too many.
 const REPORT_LEN: usize = (REPORT_ENTRIES + 1) * REPORT_ENTRY_LEN + GUARD;
 
-const FUNCTIONS: [&str; 15] = [
+/// The tree's bytes.
+const TREE_LEN: usize = 32 * 1024 + GUARD;
+
+const FUNCTIONS: [&str; 16] = [
     "memblock_fresh",
     "memblock_set",
     "memblock_set_image_end",
@@ -38,14 +41,20 @@ const FUNCTIONS: [&str; 15] = [
     "memblock_find",
     "memblock_allocate",
     "memblock_intake_e820",
+    "memblock_intake_tree",
     "memblock_convert",
 ];
-const NUMBERS: [u32; 11] = [0, 1, 2, 3, 4, 5, 6, 7, 8, 10, 12];
+const NUMBERS: [u32; 12] = [0, 1, 2, 3, 4, 5, 6, 7, 8, 10, 11, 12];
+/// What a tree's intake can answer.
+const TREE_NUMBERS: [u32; 4] = [0, 1, 11, 6];
 /// The functions that take a flag or a wish as their last number, and each of these.
 const MARKS: [&str; 2] = ["memblock_mark", "memblock_unmark"];
 const EACH_FLAG: [u32; 3] = [HOTPLUG, MIRROR, NO_MAP];
 const SEARCHES: [&str; 3] = ["memblock_next_free", "memblock_find", "memblock_allocate"];
 const EACH_WISH: [u32; 4] = [0, WISH_HOTPLUG, WISH_MIRROR, WISH_BOTH];
+
+/// The blocks of a boot.
+const BLOCKS: [&str; 5] = ["block", "mirror", "old", "by_tree", "by_calls"];
 
 /// What is wrong with a line.
 type Wrong = String;
@@ -114,6 +123,11 @@ struct Replay {
     calls: u64,
     met: BTreeSet<String>,
     numbers: BTreeSet<u32>,
+    /// The tree as it stands; what its intakes answered; how often the block of one was
+    /// the block of its commands.
+    tree: Vec<u8>,
+    tree_numbers: BTreeSet<u32>,
+    tree_same: u32,
     /// The memory map; the entries of the report as it stands; those of each
     /// report taken in, with its block; the ranges added to `mirror`, up to the
     /// first comparison.
@@ -149,10 +163,13 @@ impl Replay {
     fn new() -> Replay {
         let zero = || vec![0; BLOCK_LEN + GUARD];
         Replay {
-            blocks: BTreeMap::from([("block", zero()), ("mirror", zero()), ("old", zero())]),
+            blocks: BLOCKS.map(|name| (name, zero())).into(),
             calls: 0,
             met: BTreeSet::new(),
             numbers: BTreeSet::new(),
+            tree: vec![0; TREE_LEN],
+            tree_numbers: BTreeSet::new(),
+            tree_same: 0,
             map: Vec::new(),
             report: vec![0; REPORT_LEN],
             entries: Vec::new(),
@@ -195,6 +212,27 @@ impl Replay {
                 self.report.fill(byte);
                 self.entries.clear();
             }
+            ["tree", byte] => {
+                let byte: u8 = narrow(hex(byte)?)?;
+                self.tree.fill(byte);
+            }
+            ["tree", "at", at, digits] => {
+                let bytes = (0..digits.len())
+                    .step_by(2)
+                    .map(|i| u8::from_str_radix(digits.get(i..i + 2)?, 16).ok())
+                    .collect::<Option<Vec<u8>>>()
+                    .ok_or("not bytes")?;
+                let at = hex(at)? as usize;
+                self.tree[..TREE_LEN - GUARD]
+                    .get_mut(at..at + bytes.len())
+                    .ok_or("longer than the tree")?
+                    .copy_from_slice(&bytes);
+            }
+            ["poke", "tree", at, byte] => {
+                let at = hex(at)? as usize;
+                let byte = narrow(hex(byte)?)?;
+                *self.tree.get_mut(at).ok_or("outside the tree")? = byte;
+            }
             ["entry", "base", base, "size", size, "kind", kind] => {
                 self.entry((hex(base)?, hex(size)?, narrow(hex(kind)?)?))?;
             }
@@ -220,6 +258,13 @@ impl Replay {
                 }
                 self.same += 1;
                 return Ok(("same block mirror 0x1".into(), more));
+            }
+            ["same", "by_tree", "by_calls", _] => {
+                if self.blocks["by_tree"] != self.blocks["by_calls"] {
+                    return Err("the second program's tree is not its commands".into());
+                }
+                self.tree_same += 1;
+                return Ok(("same by_tree by_calls 0x1".into(), more));
             }
             ["use", "base", base, "size", size, "holds", _] => {
                 return Ok((format!("use base {base} size {size} holds 0x1"), more));
@@ -296,11 +341,13 @@ impl Replay {
         let mut numbers = Vec::new();
         let mut slip_length = None;
         let mut report_length = None;
+        let mut tree_length = None;
         while let Some(word) = words.next() {
             let mut length = || words.next().ok_or("no length of what is lent".to_string());
             match word {
                 "slip" => slip_length = Some(hex(length()?)? as usize),
                 "report" => report_length = Some(hex(length()?)? as usize),
+                "tree" => tree_length = Some(hex(length()?)? as usize),
                 number => numbers.push(hex(number)?),
             }
         }
@@ -318,12 +365,21 @@ impl Replay {
             .report
             .get(..report_length.unwrap_or(0))
             .ok_or("longer than the report")?;
+        let tree = self
+            .tree
+            .get(..tree_length.unwrap_or(0))
+            .ok_or("longer than the tree")?;
 
         let number = match (function, numbers, slip_length) {
             ("memblock_intake_e820", [], None) if report_length.is_some() => {
                 model::intake_e820(block, report)
             }
-            _ if report_length.is_some() => {
+            ("memblock_intake_tree", [], None) if tree_length.is_some() => {
+                let number = model::intake_tree(block, tree);
+                self.tree_numbers.insert(number);
+                number
+            }
+            _ if report_length.is_some() || tree_length.is_some() => {
                 return Err(format!("unknown call: {function}({arguments})"))
             }
             ("memblock_fresh", [], None) => model::fresh(block),
@@ -364,6 +420,9 @@ impl Replay {
         }
         if report_length.is_some() {
             let _ = write!(line, " report {:#x}", sum(&self.report));
+        }
+        if tree_length.is_some() {
+            let _ = write!(line, " tree {:#x}", sum(&self.tree));
         }
         if let (0 | 5, Some(&word)) = (number, numbers.last()) {
             self.words.insert((function.into(), word));
@@ -416,6 +475,14 @@ impl Replay {
                 return Err(format!("the number {number} was never answered"));
             }
         }
+        for number in TREE_NUMBERS {
+            if !self.tree_numbers.contains(&number) {
+                return Err(format!("no intake of a tree answered {number}"));
+            }
+        }
+        if self.tree_same != 2 {
+            return Err("the map as a tree was not compared with its commands".into());
+        }
         let backwards: Vec<Entry> = self.map.iter().rev().copied().collect();
         let usable: Vec<(u64, u64)> = backwards
             .iter()
@@ -462,7 +529,7 @@ impl Replay {
                 return Err(format!("{function} was never called with {word}"));
             }
         }
-        if !["block", "mirror"]
+        if !["block", "mirror", "by_tree"]
             .iter()
             .all(|&name| self.tables.contains(name))
         {

@@ -16,29 +16,11 @@ slice-aggregate-memblock-intake-e820 c = search needs
 memblock-intake-e820-requires : tie.Need-memblock-intake-e820-requires
 memblock-intake-e820-requires c κs = search needs
 
-cast-say-number : tie.Need-cast-say-number
-cast-say-number c = search needs
+slice-aggregate-say-answer : tie.Need-slice-aggregate-say-answer
+slice-aggregate-say-answer c = search needs
 
-say-number-requires : tie.Need-say-number-requires
-say-number-requires c κs = search needs
-
-slice-aggregate-say : tie.Need-slice-aggregate-say
-slice-aggregate-say c = search needs
-
-say-requires : tie.Need-say-requires
-say-requires c κs = search needs
-
-slice-aggregate-say-table : tie.Need-slice-aggregate-say-table
-slice-aggregate-say-table c = search needs
-
-say-table-requires : tie.Need-say-table-requires
-say-table-requires c κs = search (left-good, fresh-left-good, needs)
-
-slice-aggregate-say-table-2 : tie.Need-slice-aggregate-say-table-2
-slice-aggregate-say-table-2 c = search needs
-
-say-table-requires-2 : tie.Need-say-table-requires-2
-say-table-requires-2 c κs = search (left-good, fresh-left-good, needs)
+say-answer-requires : tie.Need-say-answer-requires
+say-answer-requires c κs = search (left-good, fresh-left-good, needs)
 
 returns : tie.Need-returns
 returns c = search needs
@@ -51,12 +33,6 @@ take-in-spec =
     memblock-fresh-requires
     slice-aggregate-memblock-intake-e820
     memblock-intake-e820-requires
-    cast-say-number
-    say-number-requires
-    slice-aggregate-say
-    say-requires
-    slice-aggregate-say-table
-    say-table-requires
-    slice-aggregate-say-table-2
-    say-table-requires-2
+    slice-aggregate-say-answer
+    say-answer-requires
     returns)

@@ -1,0 +1,7 @@
+pub mod Regs
+pub mod Passes
+pub mod Asks
+pub mod Whole
+pub mod Good
+pub mod Conditions
+pub mod Cases

@@ -1,0 +1,73 @@
+-- `board::taking::take_reserved` meets its contract.
+use Prim.Native.Nat.{_-_, _≤_}
+use mathlib.Core.Path.{_≡_, refl}
+use mathlib.Core.Bool.{true, false}
+use lib.ListN.{length}
+use Rattle.block.specs.Block.{current, good}
+use Rattle.tree.specs.Content.{first}
+use Rattle.tree.specs.Steps.{restAt, contentsAt}
+use Rattle.intake.specs.Turns.{steps, inTurn}
+use Rattle.intake.proofs.Good.{turn-good}
+use Rattle.board.specs.Steps.{reservedCommands}
+use Rattle.values.proofs.Children.{inner-within, after-within, after-less, reserved-goes}
+use Rattle.board.proofs.Passes.{reserved-done, reserved-refused, reserved-next}
+use borrow.Author.Needs.{needs}
+use Rattle.board.proofs.taking.take_reserved.Statement.{statement}
+use Rattle.board.proofs.taking.take_reserved.Tie as tie
+
+abbrev Inv-loop : tie.InvT-loop
+Inv-loop block₀ strings names s cells at marked i₀ block i = (i ≤ length s) × (restAt names s 2 false i ≡ true) × (length block ≡ length block₀) × (good current block ≡ true) × (inTurn (steps current (reservedCommands strings cells marked (first (contentsAt names s at)))) block₀ ≡ inTurn (steps current (reservedCommands strings cells marked (first (contentsAt names s i)))) block)
+
+abbrev μ-loop : tie.MeasureT-loop
+μ-loop block₀ strings names s cells at marked i₀ block i = length s - i
+
+loop-holds : tie.Need-loop-holds Inv-loop μ-loop
+loop-holds c = (search needs, search needs, refl, search needs, refl)
+
+next-node-requires : tie.Need-next-node-requires Inv-loop μ-loop
+next-node-requires c κs = search needs
+
+enum-known-next : tie.Need-enum-known-next Inv-loop μ-loop
+enum-known-next c = search needs
+
+enum-told : tie.Need-enum-told Inv-loop μ-loop
+enum-told c = search needs
+
+same-length : tie.Need-same-length Inv-loop μ-loop
+same-length c = search needs
+
+returns : tie.Need-returns Inv-loop μ-loop
+returns c = search (reserved-done, needs)
+
+take-reservation-requires : tie.Need-take-reservation-requires Inv-loop μ-loop
+take-reservation-requires c κs = (search needs, search needs, search (inner-within, needs))
+
+same-length-2 : tie.Need-same-length-2 Inv-loop μ-loop
+same-length-2 c = search needs
+
+returns-2 : tie.Need-returns-2 Inv-loop μ-loop
+returns-2 c = search (reserved-refused, needs)
+
+loop-less : tie.Need-loop-less Inv-loop μ-loop
+loop-less c = search (after-less, needs)
+
+loop-again : tie.Need-loop-again Inv-loop μ-loop
+loop-again c = (search (after-within, needs), search (reserved-goes, needs), search needs, search (turn-good, needs), search (reserved-next, needs))
+
+pub take-reserved-spec : {M : Type 1} → statement M
+take-reserved-spec =
+    tie.close
+    (tie.spec
+    Inv-loop
+    μ-loop
+    loop-holds
+    next-node-requires
+    enum-known-next
+    enum-told
+    same-length
+    returns
+    take-reservation-requires
+    same-length-2
+    returns-2
+    loop-less
+    loop-again)

@@ -1,0 +1,3 @@
+pub mod Board
+pub mod Conditions
+pub mod Steps

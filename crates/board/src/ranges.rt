@@ -1,0 +1,103 @@
+// Ranges of a tree, taken in: those of a reg, and those of the reservation list.
+use address::Address;
+use address::Size;
+use lookup::Found;
+use lookup::find_property;
+use tables::commands::Verb;
+use tables::commands::on_good;
+use tree::header::is_end;
+use tree::words::double_at;
+use tree::words::word_at;
+ghost use mathlib.Core.Path.{_≡_};
+ghost use mathlib.Core.Bool.{true};
+ghost use Prim.Native.Nat.{_+_, _*_, _/_, _≤_, _<_};
+ghost use lib.ListN.{length, drop};
+ghost use Rattle.block.specs.Block.{current, good};
+ghost use Rattle.range.specs.Outcomes.{outcome};
+ghost use Rattle.tables.specs.Commands.{legalVerb};
+ghost use Rattle.tables.specs.declared.commands.Verb.the-variants.{Reserve};
+ghost use Rattle.intake.specs.Turns.{steps, inTurn};
+ghost use Rattle.tree.specs.Words.{big};
+ghost use Rattle.tree.specs.Header.{pairs, beforeEnd};
+ghost use Rattle.tree.specs.Steps.{contentAt};
+ghost use Rattle.board.specs.Board.{entries};
+ghost use Rattle.board.specs.Steps.{OneOrTwo, onRanges, regCommands};
+
+// How many cells of 4 bytes an address and a size have.
+pub struct Cells {
+    pub address: usize,
+    pub size: usize,
+}
+
+// A number of 1 or 2 cells.
+fn cells_at(s: &[u8], at: usize, cells: usize) -> u64
+    requires { ⌜ (0 < cells) × (cells ≤ 2) × (at + 4 * cells ≤ length (now s)) ⌝ }
+    ensures { λ r. ⌜ r ≡ big 0 (4 * cells) (drop at (now (s .entry))) ⌝ }
+{
+    if cells == 1 {
+        return word_at(s, at) as u64;
+    }
+    double_at(s, at)
+}
+
+// A command on each range of a value in turn; the first refusal ends it.
+fn take_ranges(block: &mut [u8], verb: Verb, value: &[u8], cells: Cells) -> u32
+    requires { ⌜ (good current (now block) ≡ true) × (legalVerb verb ≡ true) × (OneOrTwo cells) ⌝ }
+    ensures { λ r. ⌜ outcome r (now (block .exit)) ≡ inTurn (steps current (onRanges verb (entries (length (now (value .entry)) / (4 * (cells .address + cells .size))) (cells .address) (cells .size) (now (value .entry))))) (now (block .entry)) ⌝ }
+{
+    let width = 4 * (cells.address + cells.size);
+    let mut at = 0;
+    while width <= value.len() - at {
+        let base = cells_at(value, at, cells.address);
+        let size = cells_at(value, at + 4 * cells.address, cells.size);
+        let number = on_good(block, verb, Address(base), Size(size));
+        if number != 0 {
+            return number;
+        }
+        at += width;
+    }
+    0
+}
+
+// A command on each range of a node's reg.
+pub fn take_reg(
+    block: &mut [u8],
+    verb: Verb,
+    strings: &[u8],
+    names: usize,
+    s: &[u8],
+    cells: Cells,
+    at: usize,
+) -> u32
+    requires { ⌜ (good current (now block) ≡ true) × (legalVerb verb ≡ true) × (OneOrTwo cells) × (at ≤ length (now s)) ⌝ }
+    ensures { λ r. ⌜ outcome r (now (block .exit)) ≡ inTurn (steps current (regCommands (now (strings .entry)) cells verb (contentAt names (now (s .entry)) at))) (now (block .entry)) ⌝ }
+{
+    let found = find_property(strings, names, s, b"reg", at);
+    let Found::At(a, n) = found else {
+        return 0;
+    };
+    let end = a + n;
+    take_ranges(block, verb, &s[a..end], cells)
+}
+
+// The pairs of the reservation list, up to two zeros, reserved in turn.
+pub fn take_list(block: &mut [u8], list: &[u8]) -> u32
+    requires { ⌜ good current (now block) ≡ true ⌝ }
+    ensures { λ r. ⌜ outcome r (now (block .exit)) ≡ inTurn (steps current (onRanges Reserve (beforeEnd (pairs (length (now (list .entry)) / 16) (now (list .entry)))))) (now (block .entry)) ⌝ }
+{
+    let count = list.len() / 16;
+    let mut i = 0;
+    while i < count {
+        let base = double_at(list, 16 * i);
+        let size = double_at(list, 16 * i + 8);
+        if is_end(base, size) {
+            return 0;
+        }
+        let number = on_good(block, Verb::Reserve, Address(base), Size(size));
+        if number != 0 {
+            return number;
+        }
+        i += 1;
+    }
+    0
+}

@@ -1,0 +1,13 @@
+pub mod Booleans
+pub mod Numbers
+pub mod Names
+pub mod TokenCases
+pub mod Stepping
+pub mod Following
+pub mod Reading
+pub mod Heading
+pub mod Trees
+pub mod Spelling
+pub mod Writing
+pub mod WhichTrees
+pub mod Cases

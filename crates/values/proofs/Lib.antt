@@ -1,0 +1,3 @@
+pub mod Properties
+pub mod Children
+pub mod OneByOne

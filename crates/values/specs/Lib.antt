@@ -1,0 +1,3 @@
+pub mod Names
+pub mod Values
+pub mod Steps

@@ -14,9 +14,9 @@ use Rattle.board.specs.declared.ranges.Cells.{Cells}
 use Rattle.board.specs.declared.taking.Pass.the-variants.{Memory, Reserved, Marked}
 use Rattle.values.specs.Names.{deviceType, memory, reg, numaNodeId, reservedMemory, noMap}
 use Rattle.values.specs.Values.{own, is, has, numberOr, those, joined, aCells, sCells}
-use Rattle.board.specs.Board.{ranges, commands}
+use Rattle.board.specs.Board.{ranges, commands, onRanges}
 use Rattle.values.proofs.OneByOne.{joined-first, by-name}
-use Rattle.board.specs.Steps.{onRanges, regCommands, memoryCommands, markedOrNot, reservedCommands, childCommands, childrenCommands, turns}
+use Rattle.board.specs.Steps.{regCommands, memoryCommands, markedOrNot, reservedCommands, childCommands, childrenCommands, turns}
 
 -- ---- lists of nodes in two parts
 

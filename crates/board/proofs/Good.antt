@@ -1,17 +1,18 @@
 -- A board's tree leaves a good block good; past the checks its commands are legal, so they are done or one finds its table full. Assumes nothing.
 use Prim.Native.Nat.{ℕ}
 use mathlib.Core.Path.{_≡_, refl, ap}
-use mathlib.Core.Bool.{Bool, true, false, cond, _&&_}
-use mathlib.Core.List.{List, [], _∷_, _++_, map, List·Memᴰ, List·Memᴰ·head, List·Memᴰ·tail, List·Memᴰ·not-nil}
+use mathlib.Core.Bool.{Bool, true, false, _&&_}
+use mathlib.Core.List.{List, [], _∷_, _++_, List·Memᴰ, List·Memᴰ·head, List·Memᴰ·tail, List·Memᴰ·not-nil}
 use lib.Dec.{leb, eqb}
 use lib.ListN.{length}
 use Rattle.regions.specs.Lists.{legalTag}
 use Rattle.block.specs.Block.{current, good}
-use Rattle.range.specs.Outcomes.{Outcome, outcome, tag}
+use Rattle.range.specs.Outcomes.{tag}
 use Rattle.tables.specs.declared.commands.Verb.{Verb}
 use Rattle.tables.specs.declared.commands.Verb.the-variants.{Add, Mark, Reserve}
 use Rattle.tables.specs.Commands.{Command, command, legalVerb, strict}
-use Rattle.intake.specs.Turns.{steps, inTurn, wholly}
+use Rattle.intake.specs.Turns.{steps, inTurn}
+use Rattle.intake.proofs.Whole.{checked-good}
 use Rattle.intake.proofs.Good.{DoneOrFull, commands-good, commands-number}
 use Rattle.tree.specs.Words.{word}
 use Rattle.tree.specs.Content.{Content}
@@ -20,28 +21,17 @@ use Rattle.tree.proofs.Booleans.{both}
 use Rattle.lookup.specs.Values.{Node, Value, absent, present}
 use Rattle.values.specs.Names.{reg, numaNodeId}
 use Rattle.values.specs.Values.{Get, own, has, numberOr, numberFrom, every, joined, aCells, sCells, memories, reserved, rootCells, wholeReg, nodeId, values}
-use Rattle.board.specs.Board.{ranges, onReg, adds, reserves, marks, commands, readable, asks, intakeTree}
+use Rattle.board.specs.Board.{ranges, onRanges, onReg, adds, reserves, marks, commands, readable, asks, intakeTree}
 
 pub tree-good : (tree b : List ℕ) → good current b ≡ true → good current (intakeTree current tree b .block) ≡ true
-unfolding intakeTree wholly
-tree-good tree b g = rw g (go (readable tree) (eqb (o .number) 0))
-  where
-    o : Outcome
-    o = inTurn (steps current (asks tree)) b
-
-    go : (t u : Bool) → good current (cond t (cond u o (outcome (o .number) b)) (outcome 11 b) .block) ≡ true
-    go true true = commands-good (asks tree) b g
-    go true false = g
-    go false u = g
+unfolding intakeTree
+tree-good tree b g = checked-good 11 (readable tree) (steps current (asks tree)) b g (commands-good (asks tree) b g)
 
 -- ---- the verbs of a tree's commands
 
 -- of each command of a list
 abbrev All : (Verb → Type 0) → List Command → Type 0
 All P cs = (c : Command) → List·Memᴰ c cs → P (c .verb)
-
-abbrev onRanges : Verb → List Range → List Command
-onRanges v rs = map (λ r. command v (r .base) (r .size)) rs
 
 module _ (P : Verb → Type 0) where
   both-all : (cs ds : List Command) → All P cs → All P ds → All P (cs ++ ds)

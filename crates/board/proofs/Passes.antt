@@ -1,7 +1,7 @@
 -- The passes over a board's nodes: what is still to be done on the block so far is what the whole is on the block at the start. Assumes nothing.
 use Prim.Native.Nat.{ℕ, _+_, _-_, _/_, _≤_}
 use mathlib.Core.Path.{_≡_, refl, sym, ap, _∙_}
-use mathlib.Core.Bool.{Bool, true, false, cond, _&&_, not}
+use mathlib.Core.Bool.{Bool, true, false, cond, _&&_, not, false≢true}
 use mathlib.Core.List.{List, [], _++_}
 use native.Mathlib.Omega.{arith}
 use lib.ListN.{length, take, drop, drop-of-length-le}
@@ -15,10 +15,10 @@ use Rattle.intake.specs.Turns.{steps, inTurn, wholly}
 use Rattle.intake.proofs.Turns.{commands-refused, commands-next}
 use Rattle.intake.proofs.Good.{commands-good, turn-good}
 use Rattle.intake.proofs.Whole.{put-back}
-use Rattle.tree.specs.Content.{Content, nothing, property, node, first}
+use Rattle.tree.specs.Content.{Content, nothing, node}
 use Rattle.tree.specs.Header.{pairs, beforeEnd}
-use Rattle.tree.specs.Steps.{contentsAt, strip}
-use Rattle.tree.proofs.Booleans.{both, never}
+use Rattle.tree.specs.Steps.{contentAt}
+use Rattle.tree.proofs.Booleans.{both}
 use Rattle.lookup.specs.Values.{same, valueOf}
 use Rattle.lookup.specs.Steps.{nextIs}
 use Rattle.lookup.specs.declared.Next.{Next}
@@ -31,9 +31,10 @@ use Rattle.board.specs.declared.taking.Pass.the-variants.{Memory, Reserv
 use Rattle.values.specs.Names.{deviceType, memory, reg, numaNodeId, reservedMemory, noMap}
 use Rattle.values.specs.Values.{is, has, numberFrom, wholeEntries}
 use Rattle.values.specs.Steps.{told, memoryOk}
-use Rattle.board.specs.Steps.{onRanges, regCommands, memoryCommands, markedOrNot, reservedCommands, childCommands, childrenCommands, turns}
+use Rattle.board.specs.Board.{onRanges}
+use Rattle.board.specs.Steps.{regCommands, memoryCommands, markedOrNot, reservedCommands, childCommands, childrenCommands, turns}
 use Rattle.values.proofs.Properties.{memory-no-id, memory-id, told-number}
-use Rattle.values.proofs.Children.{last-none, next-is}
+use Rattle.values.proofs.Children.{Gathered, gathered-last, gathered-next}
 
 -- ---- a child that is memory
 
@@ -59,8 +60,8 @@ module _ (strings : List ℕ) (cells : Cells) (c : Content) (t : Bool) (p : t �
           let q : wholeEntries w (valueOf strings reg c) && numberFrom 0 63 (valueOf strings numaNodeId c) ≡ true = rw (← p, e) at h in
           both (wholeEntries w (valueOf strings reg c)) (numberFrom 0 63 (valueOf strings numaNodeId c)) q .0
 
-      pub id-there : r ≡ Other → outcome 0 b ≡ inTurn (steps current (memoryCommands strings cells c)) b
-      id-there z = never (memory-no-id strings w c t p e true (sym reg-whole) refl r k z ∙ h)
+      pub id-there : r ≡ Other → ⊥
+      id-there z = false≢true (memory-no-id strings w c t p e true (sym reg-whole) refl r k z ∙ h)
 
       pub id-legal : (n : ℕ) → r ≡ Is n → legalVerb (Add (tag 0 n)) ≡ true
       unfolding legalTag
@@ -89,40 +90,24 @@ module _ (strings : List ℕ) (cells : Cells) (c : Content) (t : Bool) (p : t �
 
 -- ---- the nodes in a node, in turn
 
--- all is what is asked by what stands in a node, one by a node in it
-record Asked (all : Content → List Command) (one : List ℕ → Content → List Command) : Type 0 where
-  on-nothing : all nothing ≡ []
-  on-property : (at : ℕ) (value : List ℕ) (c : Content) → all (property at value c) ≡ all c
-  on-node : (name : List ℕ) (inner c : Content) → all (node name inner c) ≡ one name inner ++ all c
+abbrev Asked : (Content → List Command) → (List ℕ → Content → List Command) → Type 0
+Asked all one = Gathered [] _++_ all one
 
-module _ (all : Content → List Command) (one : List ℕ → Content → List Command) (w : Asked all one) where
-  on-strip : (c : Content) → all c ≡ all (strip c)
-  unfolding strip
-  on-strip nothing = refl
-  on-strip (property at value c) = w .on-property at value c ∙ on-strip c
-  on-strip (node name inner c) = refl
+module _ (all : Content → List Command) (one : List ℕ → Content → List Command) (w : Asked all one) (names : ℕ) (l : List ℕ) (left i : ℕ) (r : Next)
+    (k : nextIs names l left i r) (b : List ℕ) (whole : Outcome) (inv : whole ≡ inTurn (steps current (all (contentAt names l i))) b) where
+  ask-last : r ≡ Last → outcome 0 b ≡ whole
+  ask-last e = nothing-asked b ∙ sym (inv ∙ ap (λ (cs : List Command). inTurn (steps current cs) b) (gathered-last [] _++_ all one w names l left i r k e))
 
-  module _ (names : ℕ) (l : List ℕ) (left i : ℕ) (r : Next) (k : nextIs names l left i r) (b : List ℕ) (whole : Outcome)
-      (inv : whole ≡ inTurn (steps current (all (first (contentsAt names l i)))) b) where
-    ask-last : r ≡ Last → outcome 0 b ≡ whole
-    ask-last e =
-        nothing-asked b
-        ∙ sym (inv ∙ ap (λ (cs : List Command). inTurn (steps current cs) b) (on-strip (first (contentsAt names l i)) ∙ ap all (last-none names l left i r k e) ∙ w .on-nothing))
+  module _ (a n inner after : ℕ) (e : r ≡ Node a n inner after) (x : ℕ) (b′ : List ℕ)
+      (o : outcome x b′ ≡ inTurn (steps current (one (take n (drop a l)) (contentAt names l inner))) b) where
+    parted : whole ≡ inTurn (steps current (one (take n (drop a l)) (contentAt names l inner) ++ all (contentAt names l after))) b
+    parted = inv ∙ ap (λ (cs : List Command). inTurn (steps current cs) b) (gathered-next [] _++_ all one w names l left i r k a n inner after e)
 
-    module _ (a n inner after : ℕ) (e : r ≡ Node a n inner after) (x : ℕ) (b′ : List ℕ)
-        (o : outcome x b′ ≡ inTurn (steps current (one (take n (drop a l)) (first (contentsAt names l inner)))) b) where
-      parted : whole ≡ inTurn (steps current (one (take n (drop a l)) (first (contentsAt names l inner)) ++ all (first (contentsAt names l after)))) b
-      parted =
-          inv
-          ∙ ap (λ (cs : List Command). inTurn (steps current cs) b)
-          (on-strip (first (contentsAt names l i)) ∙ ap all (next-is names l left i r k a n inner after e)
-          ∙ w .on-node (take n (drop a l)) (first (contentsAt names l inner)) (first (contentsAt names l after)))
+    ask-refused : (x ≡ 0 → ⊥) → outcome x b′ ≡ whole
+    ask-refused h = commands-refused (one (take n (drop a l)) (contentAt names l inner)) (all (contentAt names l after)) b x b′ o h ∙ sym parted
 
-      ask-refused : (x ≡ 0 → ⊥) → outcome x b′ ≡ whole
-      ask-refused h = commands-refused (one (take n (drop a l)) (first (contentsAt names l inner))) (all (first (contentsAt names l after))) b x b′ o h ∙ sym parted
-
-      ask-next : x ≡ 0 → whole ≡ inTurn (steps current (all (first (contentsAt names l after)))) b′
-      ask-next h = parted ∙ sym (commands-next (one (take n (drop a l)) (first (contentsAt names l inner))) (all (first (contentsAt names l after))) b x b′ o h)
+    ask-next : x ≡ 0 → whole ≡ inTurn (steps current (all (contentAt names l after))) b′
+    ask-next h = parted ∙ sym (commands-next (one (take n (drop a l)) (contentAt names l inner)) (all (contentAt names l after)) b x b′ o h)
 
 module _ (strings : List ℕ) (cells : Cells) where
   module _ (marked : Bool) where
@@ -131,16 +116,16 @@ module _ (strings : List ℕ) (cells : Cells) where
     reserved-asked = record { on-nothing = refl; on-property = λ at value c. refl; on-node = λ name inner c. refl }
 
     module _ (names : ℕ) (l : List ℕ) (i : ℕ) (r : Next) (k : nextIs names l 14 i r) (b : List ℕ) (whole : Outcome)
-        (inv : whole ≡ inTurn (steps current (reservedCommands strings cells marked (first (contentsAt names l i)))) b) where
+        (inv : whole ≡ inTurn (steps current (reservedCommands strings cells marked (contentAt names l i))) b) where
       pub reserved-done : r ≡ Last → outcome 0 b ≡ whole
       reserved-done = ask-last _ _ reserved-asked names l 14 i r k b whole inv
 
       module _ (a n inner after : ℕ) (e : r ≡ Node a n inner after) (x : ℕ) (b′ : List ℕ)
-          (o : outcome x b′ ≡ inTurn (steps current (markedOrNot strings cells marked (first (contentsAt names l inner)))) b) where
+          (o : outcome x b′ ≡ inTurn (steps current (markedOrNot strings cells marked (contentAt names l inner))) b) where
         pub reserved-refused : (x ≡ 0 → ⊥) → outcome x b′ ≡ whole
         reserved-refused = ask-refused _ _ reserved-asked names l 14 i r k b whole inv a n inner after e x b′ o
 
-        pub reserved-next : x ≡ 0 → whole ≡ inTurn (steps current (reservedCommands strings cells marked (first (contentsAt names l after)))) b′
+        pub reserved-next : x ≡ 0 → whole ≡ inTurn (steps current (reservedCommands strings cells marked (contentAt names l after))) b′
         reserved-next = ask-next _ _ reserved-asked names l 14 i r k b whole inv a n inner after e x b′ o
 
   -- ---- a child of the root
@@ -175,19 +160,19 @@ module _ (strings : List ℕ) (cells : Cells) where
     children-asked = record { on-nothing = refl; on-property = λ at value c. refl; on-node = λ name inner c. refl }
 
     module _ (names : ℕ) (l : List ℕ) (i : ℕ) (r : Next) (k : nextIs names l 15 i r) (b : List ℕ) (whole : Outcome)
-        (inv : whole ≡ inTurn (steps current (childrenCommands strings cells pass (first (contentsAt names l i)))) b) where
+        (inv : whole ≡ inTurn (steps current (childrenCommands strings cells pass (contentAt names l i))) b) where
       pub children-done : r ≡ Last → outcome 0 b ≡ whole
       children-done = ask-last _ _ children-asked names l 15 i r k b whole inv
 
       module _ (a n inner after : ℕ) (e : r ≡ Node a n inner after) (x : ℕ) (b′ : List ℕ)
-          (o : outcome x b′ ≡ inTurn (steps current (childCommands strings cells pass (take (a + n - a) (drop a l)) (first (contentsAt names l inner)))) b) where
-        same-name : outcome x b′ ≡ inTurn (steps current (childCommands strings cells pass (take n (drop a l)) (first (contentsAt names l inner)))) b
+          (o : outcome x b′ ≡ inTurn (steps current (childCommands strings cells pass (take (a + n - a) (drop a l)) (contentAt names l inner))) b) where
+        same-name : outcome x b′ ≡ inTurn (steps current (childCommands strings cells pass (take n (drop a l)) (contentAt names l inner))) b
         same-name = let w : a + n - a ≡ n = omega arith in o ∙ rw w refl
 
         pub children-refused : (x ≡ 0 → ⊥) → outcome x b′ ≡ whole
         children-refused = ask-refused _ _ children-asked names l 15 i r k b whole inv a n inner after e x b′ same-name
 
-        pub children-next : x ≡ 0 → whole ≡ inTurn (steps current (childrenCommands strings cells pass (first (contentsAt names l after)))) b′
+        pub children-next : x ≡ 0 → whole ≡ inTurn (steps current (childrenCommands strings cells pass (contentAt names l after))) b′
         children-next = ask-next _ _ children-asked names l 15 i r k b whole inv a n inner after e x b′ same-name
 
   -- ---- the four passes

@@ -25,8 +25,8 @@ use Rattle.lookup.specs.declared.Found.{Found}
 use Rattle.lookup.specs.declared.Found.the-variants.{At, Nothing}
 use Rattle.board.specs.declared.ranges.Cells.{Cells}
 use Rattle.values.specs.Names.{reg}
-use Rattle.board.specs.Board.{entries, ranges}
-use Rattle.board.specs.Steps.{OneOrTwo, onRanges, regCommands}
+use Rattle.board.specs.Board.{entries, ranges, onRanges}
+use Rattle.board.specs.Steps.{OneOrTwo, regCommands}
 use Rattle.values.proofs.Properties.{found-at}
 
 -- ---- ranges in turn

@@ -1,7 +1,7 @@
 -- A board's tree is taken in whole or not at all: refusals in their order, and what is asked of a tree that has the form. Assumes nothing.
 use Prim.Native.Nat.{ℕ, _+_, _*_, _/_, _≤_, _<_}
 use mathlib.Core.Path.{_≡_, refl, sym, ap, _∙_}
-use mathlib.Core.Bool.{Bool, true, false, cond, not, _&&_}
+use mathlib.Core.Bool.{Bool, true, false, cond, not, _&&_, false≢true}
 use mathlib.Core.List.{List}
 use native.Mathlib.Omega.{arith}
 use lib.Dec.{leb, eqb}
@@ -15,12 +15,12 @@ use Rattle.tables.specs.Commands.{Command}
 use Rattle.intake.specs.Turns.{steps, wholly}
 use Rattle.tree.specs.Words.{word}
 use Rattle.tree.specs.Form.{named, formed}
-use Rattle.tree.specs.Content.{Content, first}
+use Rattle.tree.specs.Content.{Content}
 use Rattle.tree.specs.Header.{structure, strings, listed, pairs, beforeEnd, header, parts, form, root}
-use Rattle.tree.specs.Steps.{restAt, contentsAt, RootIs, RootPast}
+use Rattle.tree.specs.Steps.{restAt, contentsAt, RootIs, RootPast, contentAt}
 use Rattle.tree.specs.declared.reader.Read.{Read}
 use Rattle.tree.specs.declared.reader.Read.the-variants.{Past, Refused}
-use Rattle.tree.proofs.Booleans.{both, never}
+use Rattle.tree.proofs.Booleans.{both}
 use Rattle.tree.proofs.Heading.{header-whole}
 use Rattle.lookup.specs.Values.{Value, absent, present, valueOf}
 use Rattle.values.specs.Names.{addressCells, sizeCells}
@@ -83,8 +83,8 @@ module _ (tree : List ℕ) (f : form tree ≡ true) where
     unfolding formed restAt
     follows-whole = rw (n, p, q) formed-block
 
-    pub root-there : r ≡ Refused → outcome 11 b ≡ unless (readable tree) 11 b (wholly (steps current (asks tree)) b)
-    root-there e = never (sym (rw e at k) ∙ follows-whole)
+    pub root-there : r ≡ Refused → ⊥
+    root-there e = false≢true (sym (rw e at k) ∙ follows-whole)
 
     module _ (at : ℕ) (e : r ≡ Past at) where
       past : RootPast names s at
@@ -96,12 +96,12 @@ module _ (tree : List ℕ) (f : form tree ≡ true) where
       pub root-goes : restAt names s 1 false at ≡ true
       root-goes = sym (past .is) ∙ follows-whole
 
-      top-is : root tree ≡ first (contentsAt names s at)
+      top-is : root tree ≡ contentAt names s at
       unfolding contentsAt
       top-is = rw (← p, ← q, ← n) (past .says)
 
       abbrev top : Content
-      top = first (contentsAt names s at)
+      top = contentAt names s at
 
       values-here : readable tree ≡ rootCells (own st) top && childrenOk st (4 * (aCells (own st) top + sCells (own st) top)) top
       unfolding readable
@@ -111,11 +111,11 @@ module _ (tree : List ℕ) (f : form tree ≡ true) where
           → outcome 11 b ≡ unless (readable tree) 11 b (wholly (steps current (asks tree)) b)
       refused-here h = rw (values-here, h) refl
 
-      module _ (a : ℕ) (ea : a ≡ cellsOf 2 (valueOf st addressCells (first (contentsAt names s at)))) where
+      module _ (a : ℕ) (ea : a ≡ cellsOf 2 (valueOf st addressCells (contentAt names s at))) where
         pub no-address : a ≡ 0 → outcome 11 b ≡ unless (readable tree) 11 b (wholly (steps current (asks tree)) b)
         no-address z = refused-here (rw (no-cells 2 (omega arith) (omega arith) (valueOf st addressCells top) a ea z) refl)
 
-        module _ (sa : a ≡ 0 → ⊥) (c : ℕ) (ec : c ≡ cellsOf 1 (valueOf st sizeCells (first (contentsAt names s at)))) where
+        module _ (sa : a ≡ 0 → ⊥) (c : ℕ) (ec : c ≡ cellsOf 1 (valueOf st sizeCells (contentAt names s at))) where
           fa : Few 2 (valueOf st addressCells top) a
           fa = some-cells 2 (omega arith) (omega arith) (valueOf st addressCells top) a ea sa
 
@@ -135,11 +135,11 @@ module _ (tree : List ℕ) (f : form tree ≡ true) where
             same-width : 4 * (aCells (own st) top + sCells (own st) top) ≡ 4 * (a + c)
             same-width = rw (← fa .is, ← fc .is) refl
 
-            module _ (t : Bool) (et : t ≡ childrenOk st (4 * (a + c)) (first (contentsAt names s at))) where
+            module _ (t : Bool) (et : t ≡ childrenOk st (4 * (a + c)) (contentAt names s at)) where
               pub bad-values : t ≡ false → outcome 11 b ≡ unless (readable tree) 11 b (wholly (steps current (asks tree)) b)
               bad-values z = refused-here (rw (cells-hold, same-width, ← et, z) refl)
 
-              good-values : t ≡ true → (l : List ℕ) → l ≡ listed tree → (o : Outcome) → o ≡ wholly (steps current (turns st (record { address = a; size = c }) l (first (contentsAt names s at)))) b
+              good-values : t ≡ true → (l : List ℕ) → l ≡ listed tree → (o : Outcome) → o ≡ wholly (steps current (turns st (record { address = a; size = c }) l (contentAt names s at))) b
                   → o ≡ unless (readable tree) 11 b (wholly (steps current (asks tree)) b)
               unfolding asks
               good-values z l el o eo =
@@ -150,10 +150,10 @@ module _ (tree : List ℕ) (f : form tree ≡ true) where
 
 -- the same, in the code's own order
 pub values-taken : (tree : List ℕ) → form tree ≡ true → (st s : List ℕ) → st ≡ strings tree → s ≡ structure tree → (names : ℕ) → names ≡ named st → (r : Read) → RootIs names s r
-    → (b : List ℕ) (at a : ℕ) → a ≡ cellsOf 2 (valueOf st addressCells (first (contentsAt names s at))) → (a ≡ 0 → ⊥)
-    → (c : ℕ) → c ≡ cellsOf 1 (valueOf st sizeCells (first (contentsAt names s at))) → (c ≡ 0 → ⊥)
-    → (t : Bool) → t ≡ childrenOk st (4 * (a + c)) (first (contentsAt names s at)) → t ≡ true → (l : List ℕ) → l ≡ listed tree
-    → (o : Outcome) → o ≡ wholly (steps current (turns st (record { address = a; size = c }) l (first (contentsAt names s at)))) b → r ≡ Past at
+    → (b : List ℕ) (at a : ℕ) → a ≡ cellsOf 2 (valueOf st addressCells (contentAt names s at)) → (a ≡ 0 → ⊥)
+    → (c : ℕ) → c ≡ cellsOf 1 (valueOf st sizeCells (contentAt names s at)) → (c ≡ 0 → ⊥)
+    → (t : Bool) → t ≡ childrenOk st (4 * (a + c)) (contentAt names s at) → t ≡ true → (l : List ℕ) → l ≡ listed tree
+    → (o : Outcome) → o ≡ wholly (steps current (turns st (record { address = a; size = c }) l (contentAt names s at))) b → r ≡ Past at
     → o ≡ unless (readable tree) 11 b (wholly (steps current (asks tree)) b)
 values-taken tree f st s p q names n r k b at a ea sa c ec sc t et z l el o eo e = good-values tree f st s p q names n r k b at e a ea sa c ec sc t et z l el o eo
 

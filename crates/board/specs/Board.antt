@@ -28,12 +28,16 @@ abbrev pub ranges : ℕ → ℕ → Value → List Range
 ranges a s absent = []
 ranges a s (present v) = entries (length v / (4 * (a + s))) a s v
 
+-- the same command on each range
+abbrev pub onRanges : Verb → List Range → List Command
+onRanges v rs = map (λ r. command v (r .base) (r .size)) rs
+
 -- ---- the commands: of what is got of a node's properties, and of what stands in the root
 
 module _ (get : Get) (top : Content) where
-  -- one for each range of a node's reg
+  -- on each range of a node's reg
   abbrev pub onReg : Verb → Node → List Command
-  onReg v n = map (λ r. command v (r .base) (r .size)) (ranges (aCells get top) (sCells get top) (get n reg))
+  onReg v n = onRanges v (ranges (aCells get top) (sCells get top) (get n reg))
 
   abbrev pub adds : List Command
   adds = joined (λ n. onReg (Add (tag 0 (numberOr 0 (get n numaNodeId)))) n) (memories get top)
@@ -47,7 +51,7 @@ module _ (get : Get) (top : Content) where
 
   -- memory first, then the list, then reserved children, then marks, each in tree order
   unfoldable pub commands : List Range → List Command
-  commands list = adds ++ (map (λ r. command Reserve (r .base) (r .size)) list ++ (reserves ++ marks))
+  commands list = adds ++ (onRanges Reserve list ++ (reserves ++ marks))
 
 -- ---- taking it in
 

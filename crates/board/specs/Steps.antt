@@ -2,24 +2,25 @@
 use Prim.Native.Nat.{ℕ, _+_, _*_, _/_, _≤_, _<_}
 use mathlib.Core.Path.{_≡_}
 use mathlib.Core.Bool.{Bool, true, false, cond, not}
-use mathlib.Core.List.{List, [], _++_, map}
+use mathlib.Core.List.{List, [], _++_}
 use lib.ListN.{length}
 use Rattle.range.specs.Outcomes.{tag}
 use Rattle.tables.specs.declared.commands.Verb.{Verb}
 use Rattle.tables.specs.declared.commands.Verb.the-variants.{Add, Mark, Reserve}
-use Rattle.tables.specs.Commands.{Command, command}
+use Rattle.tables.specs.Commands.{Command}
 use Rattle.tree.specs.Content.{Content, nothing, property, node}
-use Rattle.tree.specs.Header.{Range, pairs, beforeEnd}
+use Rattle.tree.specs.Header.{pairs, beforeEnd}
 use Rattle.tree.specs.Steps.{restAt, contentAt}
 use Rattle.lookup.specs.Values.{same, valueOf}
 use Rattle.values.specs.Names.{deviceType, memory, reg, numaNodeId, reservedMemory, noMap}
 use Rattle.values.specs.Values.{is, has, numberOr}
-use Rattle.board.specs.Board.{ranges}
+use Rattle.board.specs.Board.{ranges, onRanges}
 use Rattle.values.specs.Steps.{childrenOk}
 use Rattle.board.specs.declared.ranges.Cells.{Cells}
 use Rattle.board.specs.declared.taking.Pass.{Pass}
 use Rattle.board.specs.declared.taking.Pass.the-variants.{Memory, Reserved, Marked}
 
+-- one or two cells each
 pub record OneOrTwo (c : Cells) : Type 0 where
   pub someAddress : 0 < c .address
   pub fewAddress : c .address ≤ 2
@@ -36,9 +37,6 @@ AtRoot strings cells names l at =
     (at ≤ length l) × (restAt names l 1 false at ≡ true) × (childrenOk strings (width cells) (contentAt names l at) ≡ true)
 
 -- ---- the commands of the root's children, one by one
-
-abbrev pub onRanges : Verb → List Range → List Command
-onRanges v rs = map (λ r. command v (r .base) (r .size)) rs
 
 module _ (strings : List ℕ) (cells : Cells) where
   abbrev pub regCommands : Verb → Content → List Command

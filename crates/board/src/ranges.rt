@@ -20,8 +20,8 @@ ghost use Rattle.intake.specs.Turns.{steps, inTurn};
 ghost use Rattle.tree.specs.Words.{big};
 ghost use Rattle.tree.specs.Header.{pairs, beforeEnd};
 ghost use Rattle.tree.specs.Steps.{contentAt};
-ghost use Rattle.board.specs.Board.{entries};
-ghost use Rattle.board.specs.Steps.{OneOrTwo, onRanges, regCommands};
+ghost use Rattle.board.specs.Board.{entries, onRanges};
+ghost use Rattle.board.specs.Steps.{OneOrTwo, regCommands};
 
 // How many cells of 4 bytes an address and a size have.
 pub struct Cells {

@@ -17,6 +17,7 @@ use Rattle.intake.specs.declared.e820.Entry.{Entry}
 use Rattle.intake.specs.E820.{entries, readable, commands, entrySteps, intakeE820}
 use Rattle.intake.specs.Turns.{steps, inTurn, wholly}
 use Rattle.intake.proofs.Turns.{Leaves, both-leave, commands-leave, turn-both, turn-last}
+use Rattle.intake.proofs.Whole.{checked-good}
 use Rattle.intake.proofs.ByKind.{all-adds, plain-legal}
 
 -- ---- good blocks
@@ -100,16 +101,8 @@ in-turn-number es b g = rw (turn-both (steps current (commands es)) (trim curren
 module _ (r b : List ℕ) (g : good current b ≡ true) where
   -- the block stays good, also where the report is refused
   pub intake-good : good current (intakeE820 current r b .block) ≡ true
-  unfolding intakeE820 wholly
-  intake-good = rw g (go (readable r) (eqb (o .number) 0))
-    where
-      o : Outcome
-      o = inTurn (entrySteps current (entries r)) b
-
-      go : (t u : Bool) → good current (cond t (cond u o (outcome (o .number) b)) (outcome 10 b) .block) ≡ true
-      go true true = in-turn-good (entries r) b g
-      go true false = g
-      go false u = g
+  unfolding intakeE820
+  intake-good = checked-good 10 (readable r) (entrySteps current (entries r)) b g (in-turn-good (entries r) b g)
 
   -- 1 is given where the block is not good, 10 where it is and the report cannot be read, and then 0 or 6
   pub intake-number : readable r ≡ true → (intakeE820 current r b .number ≡ 0) ⊎ (intakeE820 current r b .number ≡ 6)

@@ -1,4 +1,4 @@
--- A report is taken in whole or not at all: refusals in their order, and the block put back. Assumes nothing.
+-- A report is taken in whole or not at all: refusals in their order, and the block put back; and what every intake has of that. Assumes nothing.
 use Prim.Native.Nat.{ℕ, _+_, _*_, _/_, _%_, _≤_, _<_}
 use mathlib.Core.Path.{_≡_, refl, sym, ap, _∙_}
 use mathlib.Core.Bool.{Bool, true, false, not}
@@ -59,24 +59,39 @@ module _ (L : Layout) (w : L ≡ current) (b : List ℕ) (g : Bool) (q : g ≡ g
     unfolding intakeE820 readable
     taken-in e n p q = rw (is-good, eq-eqb (length r % 20) 0 e, le-leb (length r / 20) 128 n) q
 
--- ---- a report that was taken in
+-- ---- an intake that was not refused
 
--- the block was good, and the entries were all done in turn
-pub record TakenIn (r b : List ℕ) : Type 0 where
+-- what every intake does: the block is looked at, then what is lent (n where it cannot be read), then the steps are done wholly
+abbrev pub checked : ℕ → Bool → List Step → List ℕ → Outcome
+checked n t ss b = unless (good current b) 1 b (unless t n b (wholly ss b))
+
+-- the block was good, and the steps were all done in turn
+pub record TakenIn (ss : List Step) (b : List ℕ) (o : Outcome) : Type 0 where
   pub isGood : good current b ≡ true
-  pub number : inTurn (entrySteps current (entries r)) b .number ≡ 0
-  pub outcome : intakeE820 current r b ≡ inTurn (entrySteps current (entries r)) b
+  pub number : inTurn ss b .number ≡ 0
+  pub outcome : o ≡ inTurn ss b
 
-pub not-refused : (r b : List ℕ) → intakeE820 current r b .number ≡ 0 → TakenIn r b
-unfolding intakeE820 wholly
-not-refused r b h = go (good current b) refl (readable r) refl (eqb (o .number) 0) refl h
-  where
-    o : Outcome
-    o = inTurn (entrySteps current (entries r)) b
+module _ (n : ℕ) (t : Bool) (ss : List Step) (b : List ℕ) where
+  pub not-refused : (n ≡ 0 → ⊥) → checked n t ss b .number ≡ 0 → TakenIn ss b (checked n t ss b)
+  unfolding wholly
+  not-refused some h = go (good current b) refl t refl (eqb (o .number) 0) refl h
+    where
+      o : Outcome
+      o = inTurn ss b
 
-    go : (t : Bool) → good current b ≡ t → (u : Bool) → readable r ≡ u → (v : Bool) → eqb (o .number) 0 ≡ v
-        → unless t 1 b (unless u 10 b (unless v (o .number) b o)) .number ≡ 0 → TakenIn r b
-    go true g true e true f z = record { isGood = g; number = eqb-true (o .number) 0 f; outcome = rw (g, e, f) }
-    go true g true e false f z = absurd (eqb-false (o .number) 0 f z)
-    go true g false e v f z = let y : ⊥ = omega arith in absurd y
-    go false g u e v f z = let y : ⊥ = omega arith in absurd y
+      go : (g : Bool) → good current b ≡ g → (u : Bool) → t ≡ u → (v : Bool) → eqb (o .number) 0 ≡ v
+          → unless g 1 b (unless u n b (unless v (o .number) b o)) .number ≡ 0 → TakenIn ss b (checked n t ss b)
+      go true g true e true f z = record { isGood = g; number = eqb-true (o .number) 0 f; outcome = rw (g, e, f) }
+      go true g true e false f z = absurd (eqb-false (o .number) 0 f z)
+      go true g false e v f z = absurd (some z)
+      go false g u e v f z = let y : ⊥ = omega arith in absurd y
+
+  -- a good block stays good if the steps leave it so, also where the intake is refused
+  pub checked-good : good current b ≡ true → good current (inTurn ss b .block) ≡ true → good current (checked n t ss b .block) ≡ true
+  unfolding wholly
+  checked-good g h = rw g (go t (eqb (inTurn ss b .number) 0))
+    where
+      go : (u v : Bool) → good current (unless u n b (unless v (inTurn ss b .number) b (inTurn ss b)) .block) ≡ true
+      go true true = h
+      go true false = g
+      go false v = g

@@ -5,7 +5,7 @@ use mathlib.Core.Bool.{true, false}
 use mathlib.Core.List.{List}
 use lib.ListN.{length, drop, take}
 use Rattle.tree.specs.Content.{nothing, node, first}
-use Rattle.tree.specs.Steps.{restAt, contentsAt, strip}
+use Rattle.tree.specs.Steps.{restAt, strip, contentAt}
 use Rattle.lookup.specs.Values.{Value, absent, present}
 use Rattle.lookup.specs.declared.Found.{Found}
 use Rattle.lookup.specs.declared.Found.the-variants.{At, Nothing}
@@ -28,7 +28,7 @@ pub record FoundIn (l : List ℕ) (v : Value) (r : Found) : Type 0 where
 -- the first node from `at` on; what stands in it, and what follows it, goes on as a tree does
 abbrev pub nextIs : ℕ → List ℕ → ℕ → ℕ → Next → Type 0
 nextIs names l left at (Node name n inner after) =
-    (strip (first (contentsAt names l at)) ≡ node (take n (drop name l)) (first (contentsAt names l inner)) (first (contentsAt names l after)))
+    (strip (contentAt names l at) ≡ node (take n (drop name l)) (contentAt names l inner) (contentAt names l after))
     × (restAt names l (17 - left) false inner ≡ true) × (restAt names l (16 - left) false after ≡ true)
     × (0 < left) × (name + n ≤ length l) × (inner ≤ length l) × (at < after) × (after ≤ length l)
-nextIs names l left at Last = strip (first (contentsAt names l at)) ≡ nothing
+nextIs names l left at Last = strip (contentAt names l at) ≡ nothing

@@ -79,11 +79,25 @@ same-members ds es h d m = often-member d es (omega (arith, h d, member-often d 
 
 -- ---- in another order
 
+-- what is counted item by item is the same in another order
+pub counted : {A : Type 0} (one : A → ℕ) (all : List A → ℕ) → ((x : A) (xs : List A) → all (x ∷ xs) ≡ one x + all xs) → {xs ys : List A} → List·Permᴰ xs ys → all xs ≡ all ys
+counted one all more List·Permᴰ·nil = refl
+counted one all more (List·Permᴰ·cons {a = x} {b = y} {l₁ = xs} {l₂ = ys} p q) =
+    omega (arith, more x xs, more y ys, ap one p, counted one all more q)
+counted one all more (List·Permᴰ·swap {a = x} {b = y} {a′ = u} {b′ = v} {l = xs} p q) =
+    omega (arith, more x (y ∷ xs), more y xs, more u (v ∷ xs), more v xs, ap one p, ap one q)
+counted one all more (List·Permᴰ·trans p q) = counted one all more p ∙ counted one all more q
+
 module _ (d : Command) where
-  counts : Command → ℕ
+  -- 1 for that call, 0 for another
+  pub counts : Command → ℕ
   counts c = cond (sameCall d c) 1 0
 
-  often-more : (c : Command) (cs : List Command) → often d (c ∷ cs) ≡ counts c + often d cs
+  pub often-none : often d [] ≡ 0
+  unfolding often
+  often-none = refl
+
+  pub often-more : (c : Command) (cs : List Command) → often d (c ∷ cs) ≡ counts c + often d cs
   unfolding often counts
   often-more c cs = go (sameCall d c)
     where
@@ -91,13 +105,6 @@ module _ (d : Command) where
       go true = omega arith
       go false = omega arith
 
-  perm-often : {cs ds : List Command} → List·Permᴰ cs ds → often d cs ≡ often d ds
-  perm-often List·Permᴰ·nil = refl
-  perm-often (List·Permᴰ·cons {a = x} {b = y} {l₁ = cs} {l₂ = ds} p q) = omega (arith, often-more x cs, often-more y ds, ap counts p, perm-often q)
-  perm-often (List·Permᴰ·swap {a = x} {b = y} {a′ = u} {b′ = v} {l = cs} p q) =
-      omega (arith, often-more x (y ∷ cs), often-more y cs, often-more u (v ∷ cs), often-more v cs, ap counts p, ap counts q)
-  perm-often (List·Permᴰ·trans p q) = perm-often p ∙ perm-often q
-
 -- the same commands in another order are each there as often
 pub often-perm : {cs ds : List Command} → List·Permᴰ cs ds → SameDone cs ds
-often-perm p d = perm-often d p
+often-perm p d = counted (counts d) (often d) (often-more d) p

@@ -22,6 +22,7 @@ use Rattle.convert.proofs.Converting.{convert-sentence}
 use Rattle.tables.proofs.Good.{was-good, command-good, trim-good, set-good, image-good, fresh-good}
 use Rattle.intake.specs.Turns.{Step, steps, inTurn, wholly}
 use Rattle.intake.specs.E820.{entries, readable, entrySteps, intakeE820}
+use Rattle.intake.proofs.Whole.{checked}
 use Rattle.intake.proofs.Good.{intake-good}
 use Rattle.board.specs.Board as board
 use Rattle.board.specs.Board.{intakeTree}
@@ -99,11 +100,15 @@ module _ (b : List ℕ) where
       go true e = λ d. absurd (d (eqb-true (inTurn ss b .number) 0 e))
       go false e = λ d. refl
 
+  -- after the block's check and one of what is lent
+  intake-keeps : (n : ℕ) (t : Bool) (ss : List Step) → Keeps b (checked n t ss b)
+  intake-keeps n t ss = unless-keeps (good current b) 1 b _ (unless-keeps t n b _ (wholly-keeps ss))
+
   intake-fair : (report : List ℕ) → FairOutcome b (intakeE820 current report b)
   unfolding intakeE820
   intake-fair report =
       record {
-        keeps = unless-keeps (good current b) 1 b _ (unless-keeps (readable report) 10 b _ (wholly-keeps (entrySteps current (entries report))));
+        keeps = intake-keeps 10 (readable report) (entrySteps current (entries report));
         isGood = λ h. intake-good report b (was-good (good current b) b _ h);
       }
 
@@ -111,7 +116,7 @@ module _ (b : List ℕ) where
   unfolding intakeTree
   tree-fair tree =
       record {
-        keeps = unless-keeps (good current b) 1 b _ (unless-keeps (board.readable tree) 11 b _ (wholly-keeps (steps current (board.asks tree))));
+        keeps = intake-keeps 11 (board.readable tree) (steps current (board.asks tree));
         isGood = λ h. tree-good tree b (was-good (good current b) b _ h);
       }
 

@@ -1,8 +1,7 @@
 -- An E820 report that is taken in is a list of adds, all done, and a trim: by demand 3 the order of its entries does not count. Assumes nothing.
-use Prim.Native.Nat.{ℕ, suc, _+_}
-use mathlib.Core.Path.{_≡_, refl, sym, ap, _∙_}
-use mathlib.Core.Bool.{Bool, true, false, cond}
-use mathlib.Core.List.{List, [], _∷_, _++_, List·Permᴰ, List·Permᴰ·nil, List·Permᴰ·cons, List·Permᴰ·swap, List·Permᴰ·trans}
+use Prim.Native.Nat.{ℕ, _+_}
+use mathlib.Core.Path.{_≡_, sym, ap, _∙_}
+use mathlib.Core.List.{List, [], _∷_, _++_, List·Permᴰ}
 use mathlib.Core.Logic.{inr}
 use native.Mathlib.Omega.{arith}
 use Rattle.block.specs.Block.{current}
@@ -12,13 +11,14 @@ use Rattle.tables.specs.Commands.{Command, command, trim}
 use Rattle.intake.specs.declared.e820.Entry.{Entry}
 use Rattle.intake.specs.declared.e820.Becomes.{Becomes}
 use Rattle.intake.specs.declared.e820.Becomes.the-variants.{Added, PassedOver}
-use Rattle.intake.specs.E820.{entries, becomes, commandsAs, entryCommands, commands, entrySteps}
+use Rattle.intake.specs.E820.{entries, becomes, commandsAs, entryCommands, commands, entrySteps, readable, intakeE820}
 use Rattle.intake.specs.Turns.{Step, steps, inTurn}
 use Rattle.intake.proofs.ByKind.{all-adds}
 use Rattle.intake.proofs.Whole.{not-refused}
 use Rattle.memblock.specs.Reports.{OrderPromise}
-use Rattle.memblock.specs.Lists.{run, done, Agreed, sameCall, often, SameDone}
+use Rattle.memblock.specs.Lists.{run, done, Agreed, often, SameDone}
 use Rattle.memblock.proofs.DemandThree.{demand-three}
+use Rattle.memblock.proofs.Often.{counted, often-none, often-more}
 use Rattle.memblock.proofs.InTurn.{all-done, first-zero, rest-is}
 
 -- ---- each command as often
@@ -28,25 +28,18 @@ module _ (d : Command) where
   gives : Entry → ℕ
   gives e = often d (entryCommands e)
 
-  often-more : (e : Entry) (es : List Entry) → often d (commands (e ∷ es)) ≡ gives e + often d (commands es)
-  unfolding commands gives often
-  often-more e es = go (becomes (e .kind))
+  entry-more : (e : Entry) (es : List Entry) → often d (commands (e ∷ es)) ≡ gives e + often d (commands es)
+  unfolding commands gives
+  entry-more e es = go (becomes (e .kind))
     where
-      by : (t : Bool) (n : ℕ) → cond t (suc n) n ≡ cond t 1 0 + n
-      by true n = omega arith
-      by false n = omega arith
-
       go : (k : Becomes) → often d (commandsAs k e ++ commands es) ≡ often d (commandsAs k e) + often d (commands es)
-      go Added = by (sameCall d (command (Add (tag 0 0)) (e .base .0) (e .size .0))) (often d (commands es))
-      go PassedOver = omega arith
+      go Added =
+          let c = command (Add (tag 0 0)) (e .base .0) (e .size .0) in
+          omega (arith, often-more d c (commands es), often-more d c [], often-none d)
+      go PassedOver = omega (arith, often-none d)
 
   same-often : {es fs : List Entry} → List·Permᴰ es fs → often d (commands es) ≡ often d (commands fs)
-  same-often List·Permᴰ·nil = refl
-  same-often (List·Permᴰ·cons {a = x} {b = y} {l₁ = es} {l₂ = fs} p q) =
-      omega (arith, often-more x es, often-more y fs, ap gives p, same-often q)
-  same-often (List·Permᴰ·swap {a = x} {b = y} {a′ = u} {b′ = v} {l = es} p q) =
-      omega (arith, often-more x (y ∷ es), often-more y es, often-more u (v ∷ es), often-more v es, ap gives p, ap gives q)
-  same-often (List·Permᴰ·trans p q) = same-often p ∙ same-often q
+  same-often p = counted gives (λ es. often d (commands es)) entry-more p
 
 -- ---- the order promise
 
@@ -59,10 +52,10 @@ unfolding entrySteps last
 in-steps r b h = h
 
 pub intake-order : OrderPromise
-unfolding entrySteps last
+unfolding intakeE820 entrySteps last
 intake-order b r s p h k =
-    let x = not-refused r b h in
-    let y = not-refused s b k in
+    let x = not-refused 10 (readable r) (entrySteps current (entries r)) b (λ e. omega arith) h in
+    let y = not-refused 10 (readable s) (entrySteps current (entries s)) b (λ e. omega arith) k in
     let cs = commands (entries r) in
     let ds = commands (entries s) in
     let m = all-done cs b (first-zero cs last b (in-steps r b (x .number))) .each in

@@ -1,20 +1,19 @@
 -- A board's tree that is taken in is a list of commands, all done: by demand 3 the order among its memory, its reservations and its marks does not count.
 -- Assumes nothing.
 use Prim.Native.Nat.{ℕ}
-use mathlib.Core.Path.{_≡_, refl, sym, ap, _∙_}
-use mathlib.Core.Bool.{Bool, true, false}
-use mathlib.Core.List.{List, _++_, map, append-assoc, List·Permᴰ, List·Memᴰ}
+use mathlib.Core.Path.{_≡_, sym, ap, _∙_}
+use mathlib.Core.Bool.{true}
+use mathlib.Core.List.{List, _++_, append-assoc, List·Permᴰ, List·Memᴰ}
 use mathlib.Core.Logic.{inr}
 use native.Mathlib.Omega.{arith}
-use lib.Dec.{eqb}
-use borrow.Author.Tests.{eqb-true, eqb-false}
 use Rattle.block.specs.Block.{current, good}
-use Rattle.range.specs.Outcomes.{Outcome, unless}
+use Rattle.range.specs.Outcomes.{Outcome}
 use Rattle.tables.specs.declared.commands.Verb.{Verb}
 use Rattle.tables.specs.declared.commands.Verb.the-variants.{Mark, Reserve}
-use Rattle.tables.specs.Commands.{Command, command}
+use Rattle.tables.specs.Commands.{Command}
 use Rattle.tree.specs.Header.{root, strings, reservations}
-use Rattle.intake.specs.Turns.{steps, inTurn, wholly}
+use Rattle.intake.specs.Turns.{steps, inTurn}
+use Rattle.intake.proofs.Whole as w
 use Rattle.values.specs.Values.{own}
 use Rattle.board.specs.Board as board
 use Rattle.board.specs.Board.{asks, intakeTree}
@@ -39,34 +38,23 @@ any-order b g cs ds p a h k =
 -- ---- a tree that was taken in
 
 module _ (tree b : List ℕ) (h : intakeTree current tree b .number ≡ 0) where
-  not-refused : (good current b ≡ true) × (inTurn (steps current (asks tree)) b .number ≡ 0) × (intakeTree current tree b ≡ inTurn (steps current (asks tree)) b)
-  unfolding intakeTree wholly
-  not-refused = go (good current b) refl (board.readable tree) refl (eqb (o .number) 0) refl h
-    where
-      o : Outcome
-      o = inTurn (steps current (asks tree)) b
-
-      go : (t : Bool) → good current b ≡ t → (u : Bool) → board.readable tree ≡ u → (v : Bool) → eqb (o .number) 0 ≡ v
-          → unless t 1 b (unless u 11 b (unless v (o .number) b o)) .number ≡ 0
-          → (good current b ≡ true) × (o .number ≡ 0) × (intakeTree current tree b ≡ o)
-      go true g true e true f z = (g, eqb-true (o .number) 0 f, rw (g, e, f) refl)
-      go true g true e false f z = absurd (eqb-false (o .number) 0 f z)
-      go true g false e v f z = let y : ⊥ = omega arith in absurd y
-      go false g u e v f z = let y : ⊥ = omega arith in absurd y
+  done-all : w.TakenIn (steps current (asks tree)) b (intakeTree current tree b)
+  unfolding intakeTree
+  done-all = w.not-refused 11 (board.readable tree) (steps current (asks tree)) b (λ e. omega arith) h
 
   taken-in : TakenIn tree b
   taken-in =
-      let r = not-refused in
-      let d = all-done (asks tree) b (r .1) in
-      record { each = d .each; leaves = ap (λ (o : Outcome). o .block) (r .2 ∙ d .ends) }
+      let r = done-all in
+      let d = all-done (asks tree) b (r .number) in
+      record { each = d .each; leaves = ap (λ (o : Outcome). o .block) (r .outcome ∙ d .ends) }
 
   -- the three parts
   in-parts : asks tree ≡ memory tree ++ (taken tree ++ marked tree)
   unfolding asks board.commands
-  in-parts = ap (λ (cs : List Command). memory tree ++ cs) (sym (append-assoc (map (λ r. command Reserve (r .base) (r .size)) (reservations tree)) (board.reserves (own (strings tree)) (root tree)) (marked tree)))
+  in-parts = ap (λ (cs : List Command). memory tree ++ cs) (sym (append-assoc (board.onRanges Reserve (reservations tree)) (board.reserves (own (strings tree)) (root tree)) (marked tree)))
 
   all-parts : inTurn (steps current (memory tree ++ (taken tree ++ marked tree))) b .number ≡ 0
-  all-parts = ap (λ (cs : List Command). inTurn (steps current cs) b .number) (sym in-parts) ∙ not-refused .1
+  all-parts = ap (λ (cs : List Command). inTurn (steps current cs) b .number) (sym in-parts) ∙ done-all .number
 
   later-parts : inTurn (steps current (taken tree ++ marked tree)) (run (memory tree) b) .number ≡ 0
   later-parts = rest-done (memory tree) (taken tree ++ marked tree) b all-parts
@@ -83,7 +71,7 @@ one-verb v cs h d e i j t = inr (h d i ∙ sym (h e j))
 order : (b r s : List ℕ) → SameAsked r s → Agreed (memory r) → intakeTree current r b .number ≡ 0 → intakeTree current s b .number ≡ 0
     → intakeTree current r b .block ≡ intakeTree current s b .block
 order b r s p a h k =
-    let g = not-refused r b h .0 in
+    let g = done-all r b h .isGood in
     let m = all-parts r b h in
     let n = all-parts s b k in
     let e = any-order b g (memory r) (memory s) (p .same-memory) a (first-done (memory r) _ b m) (first-done (memory s) _ b n) in

@@ -2,13 +2,13 @@
 -- counts no more than there. Assumes nothing.
 use Prim.Native.Nat.{ℕ}
 use mathlib.Core.Path.{_≡_}
-use mathlib.Core.List.{List, _++_, map, List·Permᴰ}
+use mathlib.Core.List.{List, _++_, List·Permᴰ}
 use Rattle.block.specs.Block.{current}
 use Rattle.tables.specs.declared.commands.Verb.the-variants.{Reserve}
-use Rattle.tables.specs.Commands.{Command, command}
+use Rattle.tables.specs.Commands.{Command}
 use Rattle.tree.specs.Header.{root, strings, reservations}
 use Rattle.values.specs.Values.{own}
-use Rattle.board.specs.Board.{adds, reserves, marks, asks, intakeTree}
+use Rattle.board.specs.Board.{adds, onRanges, reserves, marks, asks, intakeTree}
 use Rattle.memblock.specs.Lists.{run, done, Agreed}
 
 -- a tree that was taken in: each of its commands is done, and the block is what they leave
@@ -21,7 +21,7 @@ abbrev pub memory : List ℕ → List Command
 memory tree = adds (own (strings tree)) (root tree)
 
 abbrev pub taken : List ℕ → List Command
-taken tree = map (λ r. command Reserve (r .base) (r .size)) (reservations tree) ++ reserves (own (strings tree)) (root tree)
+taken tree = onRanges Reserve (reservations tree) ++ reserves (own (strings tree)) (root tree)
 
 abbrev pub marked : List ℕ → List Command
 marked tree = marks (own (strings tree)) (root tree)

@@ -22,5 +22,6 @@ unfoldable pub named : List ℕ → ℕ
 named [] = 0
 named (b ∷ l) = cond (zeroEnded (b ∷ l)) (suc (named l)) 0
 
+-- a structure block is a tree's, beside its strings block
 unfoldable pub formed : List ℕ → List ℕ → Bool
 formed strings structure = follows 0 false (tokens (named strings) structure)

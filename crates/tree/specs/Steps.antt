@@ -66,7 +66,7 @@ strip (node n inner c) = node n inner c
 pub record Behind (names : ℕ) (l : List ℕ) (at r : ℕ) : Type 0 where
   pub is : (n : ℕ) → 0 < n → restAt names l n false at ≡ restAt names l n true r
   pub left : drop 1 (contentsAt names l at) ≡ drop 1 (contentsAt names l r)
-  pub nodes : strip (first (contentsAt names l at)) ≡ first (contentsAt names l r)
+  pub nodes : strip (contentAt names l at) ≡ contentAt names l r
   pub forward : at ≤ r
   pub within : r ≤ length l
 
@@ -79,7 +79,7 @@ pub record Padded (len at n r : ℕ) : Type 0 where
 -- past the root's name: what may follow there, and what stands in the root
 pub record RootPast (names : ℕ) (l : List ℕ) (at : ℕ) : Type 0 where
   pub is : restAt names l 0 false 0 ≡ restAt names l 1 false at
-  pub says : inRoot (first (contentsAt names l 0)) ≡ first (contentsAt names l at)
+  pub says : inRoot (contentAt names l 0) ≡ contentAt names l at
   pub within : at ≤ length l
 
 abbrev pub RootIs : ℕ → List ℕ → Read → Type 0

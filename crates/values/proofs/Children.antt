@@ -5,8 +5,8 @@ use mathlib.Core.Bool.{Bool, true, false, cond, _&&_}
 use mathlib.Core.List.{List}
 use native.Mathlib.Omega.{arith}
 use lib.ListN.{length, take, drop}
-use Rattle.tree.specs.Content.{Content, nothing, property, node, first}
-use Rattle.tree.specs.Steps.{restAt, contentsAt, strip}
+use Rattle.tree.specs.Content.{Content, nothing, property, node}
+use Rattle.tree.specs.Steps.{restAt, contentAt, strip}
 use Rattle.tree.proofs.Booleans.{both}
 use Rattle.lookup.specs.Values.{same, valueOf}
 use Rattle.lookup.specs.Steps.{nextIs}
@@ -19,11 +19,11 @@ use Rattle.values.specs.Steps.{memoryOk, reservedOk, childOk, childrenOk
 -- ---- where the next node stands
 
 module _ (names : ℕ) (l : List ℕ) (left i : ℕ) (r : Next) (k : nextIs names l left i r) where
-  pub last-none : r ≡ Last → strip (first (contentsAt names l i)) ≡ nothing
+  last-none : r ≡ Last → strip (contentAt names l i) ≡ nothing
   last-none e = rw e at k
 
   module _ (a n inner after : ℕ) (e : r ≡ Node a n inner after) where
-    pub next-is : strip (first (contentsAt names l i)) ≡ node (take n (drop a l)) (first (contentsAt names l inner)) (first (contentsAt names l after))
+    next-is : strip (contentAt names l i) ≡ node (take n (drop a l)) (contentAt names l inner) (contentAt names l after)
     next-is = (rw e at k) .0
 
     inner-goes : restAt names l (17 - left) false inner ≡ true
@@ -55,60 +55,74 @@ module _ (names : ℕ) (l : List ℕ) (i : ℕ) (r : Next) (k : nextIs names l 1
   pub children-goes : restAt names l 1 false after ≡ true
   children-goes = after-goes names l 15 i r k a n inner after e
 
--- ---- a test of each node
+-- ---- what is gathered node by node
 
--- all is the test of what stands in a node, one that of a node in it by its name and what stands in it
-record Walked (all : Content → Bool) (one : List ℕ → Content → Bool) : Type 0 where
-  on-nothing : all nothing ≡ true
-  on-property : (at : ℕ) (value : List ℕ) (c : Content) → all (property at value c) ≡ all c
-  on-node : (name : List ℕ) (inner c : Content) → all (node name inner c) ≡ one name inner && all c
+-- all is gathered of what stands in a node: none where nothing does, one of each node in it by its name and what stands in it, joined in order
+pub record Gathered {A : Type 0} (none : A) (join : A → A → A) (all : Content → A) (one : List ℕ → Content → A) : Type 0 where
+  pub on-nothing : all nothing ≡ none
+  pub on-property : (at : ℕ) (value : List ℕ) (c : Content) → all (property at value c) ≡ all c
+  pub on-node : (name : List ℕ) (inner c : Content) → all (node name inner c) ≡ join (one name inner) (all c)
 
-module _ (all : Content → Bool) (one : List ℕ → Content → Bool) (w : Walked all one) where
+module _ {A : Type 0} (none : A) (join : A → A → A) (all : Content → A) (one : List ℕ → Content → A) (w : Gathered none join all one) where
   on-strip : (c : Content) → all c ≡ all (strip c)
   unfolding strip
   on-strip nothing = refl
   on-strip (property at value c) = w .on-property at value c ∙ on-strip c
   on-strip (node name inner c) = refl
 
-  module _ (names : ℕ) (l : List ℕ) (left i : ℕ) (r : Next) (k : nextIs names l left i r) (whole : Bool) (inv : whole ≡ all (first (contentsAt names l i))) where
-    walk-last : r ≡ Last → true ≡ whole
-    walk-last e = sym (inv ∙ on-strip (first (contentsAt names l i)) ∙ ap all (last-none names l left i r k e) ∙ w .on-nothing)
+  module _ (names : ℕ) (l : List ℕ) (left i : ℕ) (r : Next) (k : nextIs names l left i r) where
+    pub gathered-last : r ≡ Last → all (contentAt names l i) ≡ none
+    gathered-last e = on-strip (contentAt names l i) ∙ ap all (last-none names l left i r k e) ∙ w .on-nothing
 
-    module _ (a n inner after : ℕ) (e : r ≡ Node a n inner after) where
-      walk-one : whole ≡ one (take n (drop a l)) (first (contentsAt names l inner)) && all (first (contentsAt names l after))
-      walk-one =
-          inv ∙ on-strip (first (contentsAt names l i)) ∙ ap all (next-is names l left i r k a n inner after e)
-          ∙ w .on-node (take n (drop a l)) (first (contentsAt names l inner)) (first (contentsAt names l after))
+    pub gathered-next : (a n inner after : ℕ) → r ≡ Node a n inner after
+        → all (contentAt names l i) ≡ join (one (take n (drop a l)) (contentAt names l inner)) (all (contentAt names l after))
+    gathered-next a n inner after e =
+        on-strip (contentAt names l i) ∙ ap all (next-is names l left i r k a n inner after e)
+        ∙ w .on-node (take n (drop a l)) (contentAt names l inner) (contentAt names l after)
 
-      module _ (t : Bool) (p : t ≡ one (take n (drop a l)) (first (contentsAt names l inner))) where
-        walk-bad : t ≡ false → false ≡ whole
-        walk-bad f = sym (walk-one ∙ rw (← p, f) refl)
+-- ---- a test of each node
 
-        walk-on : t ≡ true → whole ≡ all (first (contentsAt names l after))
-        walk-on f = walk-one ∙ rw (← p, f) refl
+abbrev Tested : (Content → Bool) → (List ℕ → Content → Bool) → Type 0
+Tested all one = Gathered true _&&_ all one
 
-      -- what holds of the whole holds of the node and of what follows it
-      walk-holds : whole ≡ true → (one (take n (drop a l)) (first (contentsAt names l inner)) ≡ true) × (all (first (contentsAt names l after)) ≡ true)
-      walk-holds f = both (one (take n (drop a l)) (first (contentsAt names l inner))) (all (first (contentsAt names l after))) (sym walk-one ∙ f)
+module _ (all : Content → Bool) (one : List ℕ → Content → Bool) (w : Tested all one) (names : ℕ) (l : List ℕ) (left i : ℕ) (r : Next)
+    (k : nextIs names l left i r) (whole : Bool) (inv : whole ≡ all (contentAt names l i)) where
+  test-last : r ≡ Last → true ≡ whole
+  test-last e = sym (inv ∙ gathered-last true _&&_ all one w names l left i r k e)
+
+  module _ (a n inner after : ℕ) (e : r ≡ Node a n inner after) where
+    test-one : whole ≡ one (take n (drop a l)) (contentAt names l inner) && all (contentAt names l after)
+    test-one = inv ∙ gathered-next true _&&_ all one w names l left i r k a n inner after e
+
+    module _ (t : Bool) (p : t ≡ one (take n (drop a l)) (contentAt names l inner)) where
+      test-bad : t ≡ false → false ≡ whole
+      test-bad f = sym (test-one ∙ rw (← p, f) refl)
+
+      test-on : t ≡ true → whole ≡ all (contentAt names l after)
+      test-on f = test-one ∙ rw (← p, f) refl
+
+    -- what holds of the whole holds of the node and of what follows it
+    test-holds : whole ≡ true → (one (take n (drop a l)) (contentAt names l inner) ≡ true) × (all (contentAt names l after) ≡ true)
+    test-holds f = both (one (take n (drop a l)) (contentAt names l inner)) (all (contentAt names l after)) (sym test-one ∙ f)
 
 -- ---- the nodes in a /reserved-memory
 
 module _ (strings : List ℕ) (width : ℕ) where
-  reserved-walked : Walked (reservedOk strings width) (λ name c. wholeEntries width (valueOf strings reg c))
+  reserved-tested : Tested (reservedOk strings width) (λ name c. wholeEntries width (valueOf strings reg c))
   unfolding reservedOk
-  reserved-walked = record { on-nothing = refl; on-property = λ at value c. refl; on-node = λ name inner c. refl }
+  reserved-tested = record { on-nothing = refl; on-property = λ at value c. refl; on-node = λ name inner c. refl }
 
   module _ (names : ℕ) (l : List ℕ) (at i : ℕ) (r : Next) (k : nextIs names l 14 i r)
-      (inv : reservedOk strings width (first (contentsAt names l at)) ≡ reservedOk strings width (first (contentsAt names l i))) where
-    pub reserved-last : r ≡ Last → true ≡ reservedOk strings width (first (contentsAt names l at))
-    reserved-last = walk-last _ _ reserved-walked names l 14 i r k _ inv
+      (inv : reservedOk strings width (contentAt names l at) ≡ reservedOk strings width (contentAt names l i)) where
+    pub reserved-last : r ≡ Last → true ≡ reservedOk strings width (contentAt names l at)
+    reserved-last = test-last _ _ reserved-tested names l 14 i r k _ inv
 
-    module _ (a n inner after : ℕ) (e : r ≡ Node a n inner after) (t : Bool) (p : t ≡ wholeEntries width (valueOf strings reg (first (contentsAt names l inner)))) where
-      pub reserved-bad : t ≡ false → false ≡ reservedOk strings width (first (contentsAt names l at))
-      reserved-bad = walk-bad _ _ reserved-walked names l 14 i r k _ inv a n inner after e t p
+    module _ (a n inner after : ℕ) (e : r ≡ Node a n inner after) (t : Bool) (p : t ≡ wholeEntries width (valueOf strings reg (contentAt names l inner))) where
+      pub reserved-bad : t ≡ false → false ≡ reservedOk strings width (contentAt names l at)
+      reserved-bad = test-bad _ _ reserved-tested names l 14 i r k _ inv a n inner after e t p
 
-      pub reserved-on : t ≡ true → reservedOk strings width (first (contentsAt names l at)) ≡ reservedOk strings width (first (contentsAt names l after))
-      reserved-on = walk-on _ _ reserved-walked names l 14 i r k _ inv a n inner after e t p
+      pub reserved-on : t ≡ true → reservedOk strings width (contentAt names l at) ≡ reservedOk strings width (contentAt names l after)
+      reserved-on = test-on _ _ reserved-tested names l 14 i r k _ inv a n inner after e t p
 
   -- ---- a child of the root
 
@@ -133,32 +147,32 @@ module _ (strings : List ℕ) (width : ℕ) where
 
   -- ---- the children of the root
 
-  children-walked : Walked (childrenOk strings width) (childOk strings width)
+  children-tested : Tested (childrenOk strings width) (childOk strings width)
   unfolding childrenOk
-  children-walked = record { on-nothing = refl; on-property = λ at value c. refl; on-node = λ name inner c. refl }
+  children-tested = record { on-nothing = refl; on-property = λ at value c. refl; on-node = λ name inner c. refl }
 
   module _ (names : ℕ) (l : List ℕ) (at i : ℕ) (r : Next) (k : nextIs names l 15 i r)
-      (inv : childrenOk strings width (first (contentsAt names l at)) ≡ childrenOk strings width (first (contentsAt names l i))) where
-    pub children-last : r ≡ Last → true ≡ childrenOk strings width (first (contentsAt names l at))
-    children-last = walk-last _ _ children-walked names l 15 i r k _ inv
+      (inv : childrenOk strings width (contentAt names l at) ≡ childrenOk strings width (contentAt names l i)) where
+    pub children-last : r ≡ Last → true ≡ childrenOk strings width (contentAt names l at)
+    children-last = test-last _ _ children-tested names l 15 i r k _ inv
 
     module _ (a n inner after : ℕ) (e : r ≡ Node a n inner after) (t : Bool)
-        (p : t ≡ childOk strings width (take (a + n - a) (drop a l)) (first (contentsAt names l inner))) where
-      same-name : t ≡ childOk strings width (take n (drop a l)) (first (contentsAt names l inner))
+        (p : t ≡ childOk strings width (take (a + n - a) (drop a l)) (contentAt names l inner)) where
+      same-name : t ≡ childOk strings width (take n (drop a l)) (contentAt names l inner)
       same-name = let w : a + n - a ≡ n = omega arith in p ∙ rw w refl
 
-      pub children-bad : t ≡ false → false ≡ childrenOk strings width (first (contentsAt names l at))
-      children-bad = walk-bad _ _ children-walked names l 15 i r k _ inv a n inner after e t same-name
+      pub children-bad : t ≡ false → false ≡ childrenOk strings width (contentAt names l at)
+      children-bad = test-bad _ _ children-tested names l 15 i r k _ inv a n inner after e t same-name
 
-      pub children-on : t ≡ true → childrenOk strings width (first (contentsAt names l at)) ≡ childrenOk strings width (first (contentsAt names l after))
-      children-on = walk-on _ _ children-walked names l 15 i r k _ inv a n inner after e t same-name
+      pub children-on : t ≡ true → childrenOk strings width (contentAt names l at) ≡ childrenOk strings width (contentAt names l after)
+      children-on = test-on _ _ children-tested names l 15 i r k _ inv a n inner after e t same-name
 
-  module _ (names : ℕ) (l : List ℕ) (i : ℕ) (r : Next) (k : nextIs names l 15 i r) (inv : childrenOk strings width (first (contentsAt names l i)) ≡ true)
+  module _ (names : ℕ) (l : List ℕ) (i : ℕ) (r : Next) (k : nextIs names l 15 i r) (inv : childrenOk strings width (contentAt names l i) ≡ true)
       (a n inner after : ℕ) (e : r ≡ Node a n inner after) where
-    pub child-holds : childOk strings width (take (a + n - a) (drop a l)) (first (contentsAt names l inner)) ≡ true
+    pub child-holds : childOk strings width (take (a + n - a) (drop a l)) (contentAt names l inner) ≡ true
     child-holds =
         let w : a + n - a ≡ n = omega arith in
-        rw w (walk-holds _ _ children-walked names l 15 i r k _ refl a n inner after e inv .0)
+        rw w (test-holds _ _ children-tested names l 15 i r k _ refl a n inner after e inv .0)
 
-    pub rest-holds : childrenOk strings width (first (contentsAt names l after)) ≡ true
-    rest-holds = walk-holds _ _ children-walked names l 15 i r k _ refl a n inner after e inv .1
+    pub rest-holds : childrenOk strings width (contentAt names l after) ≡ true
+    rest-holds = test-holds _ _ children-tested names l 15 i r k _ refl a n inner after e inv .1

@@ -5,8 +5,7 @@ use Prim.Native.Nat.{_+_, _-_, _≤_}
 use mathlib.Core.Path.{_≡_, refl}
 use mathlib.Core.Bool.{true, false}
 use lib.ListN.{length}
-use Rattle.tree.specs.Content.{first}
-use Rattle.tree.specs.Steps.{restAt, contentsAt}
+use Rattle.tree.specs.Steps.{restAt, contentAt}
 use Rattle.values.specs.Steps.{childrenOk}
 use Rattle.values.proofs.Children.{name-within, child-goes, inner-within, children-goes, after-within, after-less, children-last, children-bad, children-on}
 use borrow.Author.Needs.{needs}
@@ -14,7 +13,7 @@ use Rattle.values.proofs.children_ok.Statement.{statement}
 use Rattle.values.proofs.children_ok.Tie as tie
 
 abbrev Inv-loop : tie.InvT-loop
-Inv-loop strings names s at width i₀ i = (i ≤ length s) × (restAt names s 1 false i ≡ true) × (childrenOk strings width (first (contentsAt names s at)) ≡ childrenOk strings width (first (contentsAt names s i)))
+Inv-loop strings names s at width i₀ i = (i ≤ length s) × (restAt names s 1 false i ≡ true) × (childrenOk strings width (contentAt names s at) ≡ childrenOk strings width (contentAt names s i))
 
 abbrev μ-loop : tie.MeasureT-loop
 μ-loop strings names s at width i₀ i = length s - i

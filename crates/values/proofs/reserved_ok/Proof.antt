@@ -3,8 +3,7 @@ use Prim.Native.Nat.{_-_, _≤_}
 use mathlib.Core.Path.{_≡_, refl}
 use mathlib.Core.Bool.{true, false}
 use lib.ListN.{length}
-use Rattle.tree.specs.Content.{first}
-use Rattle.tree.specs.Steps.{restAt, contentsAt}
+use Rattle.tree.specs.Steps.{restAt, contentAt}
 use Rattle.values.specs.Steps.{reservedOk}
 use Rattle.values.proofs.Children.{inner-within, reserved-goes, after-within, after-less, reserved-last, reserved-bad, reserved-on}
 use borrow.Author.Needs.{needs}
@@ -12,7 +11,7 @@ use Rattle.values.proofs.reserved_ok.Statement.{statement}
 use Rattle.values.proofs.reserved_ok.Tie as tie
 
 abbrev Inv-loop : tie.InvT-loop
-Inv-loop strings names s at width i₀ i = (i ≤ length s) × (restAt names s 2 false i ≡ true) × (reservedOk strings width (first (contentsAt names s at)) ≡ reservedOk strings width (first (contentsAt names s i)))
+Inv-loop strings names s at width i₀ i = (i ≤ length s) × (restAt names s 2 false i ≡ true) × (reservedOk strings width (contentAt names s at) ≡ reservedOk strings width (contentAt names s i))
 
 abbrev μ-loop : tie.MeasureT-loop
 μ-loop strings names s at width i₀ i = length s - i

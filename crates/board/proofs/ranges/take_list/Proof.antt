@@ -8,7 +8,7 @@ use Rattle.tables.specs.declared.commands.Verb.the-variants.{Reserve}
 use Rattle.tree.specs.Header.{pairs, beforeEnd}
 use Rattle.intake.specs.Turns.{steps, inTurn}
 use Rattle.intake.proofs.Good.{command-kept}
-use Rattle.board.specs.Steps.{onRanges}
+use Rattle.board.specs.Board.{onRanges}
 use Rattle.board.proofs.Regs.{ListFrom, list-start, list-over, list-ended, list-refused, list-next}
 use borrow.Author.Needs.{needs}
 use Rattle.board.proofs.ranges.take_list.Statement.{statement}

@@ -6,8 +6,7 @@ use lib.ListN.{length}
 use Rattle.block.specs.Block.{current, good}
 use Rattle.intake.specs.Turns.{steps, inTurn}
 use Rattle.intake.proofs.Good.{command-kept}
-use Rattle.board.specs.Board.{entries}
-use Rattle.board.specs.Steps.{onRanges}
+use Rattle.board.specs.Board.{entries, onRanges}
 use Rattle.board.proofs.Regs.{EntriesFrom, entries-start, entries-done, entries-refused, entries-next}
 use borrow.Author.Needs.{needs}
 use Rattle.board.proofs.ranges.take_ranges.Statement.{statement}

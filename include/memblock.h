@@ -39,8 +39,13 @@ extern "C" {
 #define MEMBLOCK_BAD_DIRECTION 7 /* set: above 1 */
 #define MEMBLOCK_BAD_SLIP 8      /* the slip is not MEMBLOCK_SLIP_LENGTH bytes */
 #define MEMBLOCK_BAD_REPORT 10   /* the report is not whole entries, or more than MEMBLOCK_REPORT_ENTRIES */
-#define MEMBLOCK_BAD_TREE 11     /* the tree is not of the form, or has not the values, that memblock_intake_tree names */
+#define MEMBLOCK_BAD_TREE 11     /* a tree is not of the form that memblock_intake_tree names; intakes: or the values are not as it says */
 #define MEMBLOCK_NOT_TAKEN 12    /* free: not every address of the range is taken */
+
+/* Numbers that memblock_lookup answers besides 8 and 11: which tree has the property. */
+#define MEMBLOCK_IN_NEITHER 0
+#define MEMBLOCK_IN_SERVICE 1
+#define MEMBLOCK_IN_BOARD 2
 
 /* Directions of a search. */
 #define MEMBLOCK_TOP_DOWN 0
@@ -70,8 +75,10 @@ extern "C" {
 
 /* The slip: two little-endian u64. */
 #define MEMBLOCK_SLIP_LENGTH 16
-#define MEMBLOCK_SLIP_BASE_AT 0
-#define MEMBLOCK_SLIP_END_AT 8 /* the first address past the free run that holds the base */
+#define MEMBLOCK_SLIP_BASE_AT 0         /* searches */
+#define MEMBLOCK_SLIP_END_AT 8          /* the first address past the free run that holds the base */
+#define MEMBLOCK_SLIP_OFFSET_AT 0       /* lookup: where the value begins, from the first byte of its tree */
+#define MEMBLOCK_SLIP_VALUE_LENGTH_AT 8 /* how many bytes it has */
 
 /* An E820 report: entries, little-endian, offsets within one. */
 #define MEMBLOCK_REPORT_ENTRY_LENGTH 20
@@ -155,9 +162,11 @@ extern "C" {
 #define MEMBLOCK_STACK_FIND 576
 #define MEMBLOCK_STACK_ALLOCATE 576
 #define MEMBLOCK_STACK_INTAKE_E820 6912
-#define MEMBLOCK_STACK_INTAKE_TREE 19968
+#define MEMBLOCK_STACK_INTAKE_TREE 21056
+#define MEMBLOCK_STACK_INTAKE_TREES 27904
+#define MEMBLOCK_STACK_LOOKUP 11008
 #define MEMBLOCK_STACK_CONVERT 320
-#define MEMBLOCK_STACK 19968 /* the most of these */
+#define MEMBLOCK_STACK 27904 /* the most of these */
 
 /* Writes a fresh block over any MEMBLOCK_BLOCK_LENGTH bytes: both tables empty, no limit, top-down, no image. Answers 0 or 1. */
 uint32_t memblock_fresh(uint8_t *block, size_t length);
@@ -240,6 +249,30 @@ uint32_t memblock_intake_e820(uint8_t *block, size_t length, const uint8_t *repo
  * or 2, 4 bytes each; each reg so used whole entries; each numa-node-id of memory 4 bytes and below MEMBLOCK_NODES. Padding may be any
  * bytes, parts may overlap, and the total size may be above the lent length. The tree is not written. Answers 0, 1, 11 or 6. */
 uint32_t memblock_intake_tree(uint8_t *block, size_t length, const uint8_t *board, size_t board_length);
+
+/* Takes a board's tree in with the corrections of a service tree: as memblock_intake_tree does with the board's, but each property that is
+ * asked of a node (the root's cells, device_type, reg, numa-node-id, no-map) is the one that memblock_lookup finds at the node's path in
+ * the service tree, and the node's own first of that name where there is none. An empty value corrects too. Nodes of one path get the
+ * same correction; what the service tree has at other paths, its nodes and its list add nothing. Where the service tree is a root alone,
+ * it is memblock_intake_tree.
+ *
+ * 11 unless both trees are of the form (all that is said there but cells, reg and numa-node-id) and the values so found are as said there.
+ * The trees are not written, and may be one. Answers 0, 1, 11 or 6. */
+uint32_t memblock_intake_trees(uint8_t *block, size_t length, const uint8_t *board, size_t board_length, const uint8_t *service,
+                               size_t service_length);
+
+/* Slip: where the value of a property stands, in the service tree if that has it, else in the board's, as an offset from the tree's first
+ * byte and a length; two zeros where neither has it. The value is read in the tree itself. One of length 0 is there like any other.
+ *
+ * The path is bytes without a zero behind them: "/" for the root, else "/" and the whole name of each node below the root on the way, the
+ * unit address too; the name is the property's, without its zero. Bytes are compared and nothing is parsed: a name with "/" in it has the
+ * bytes of a longer way, a "/" at the end is a nameless node's, and a nameless child of the root has the root's path; a path that is empty
+ * or begins otherwise finds nothing. Of several matches the first in the tree counts, a node's own properties before those of its nodes.
+ *
+ * 11, with a slip of zeros, unless both trees are of the form, also where the other would have it. Nothing but the slip is written; the
+ * trees may be one. Answers MEMBLOCK_IN_SERVICE, MEMBLOCK_IN_BOARD, MEMBLOCK_IN_NEITHER, 8 or 11. */
+uint32_t memblock_lookup(const uint8_t *service, size_t service_length, const uint8_t *board, size_t board_length, const uint8_t *path,
+                         size_t path_length, const uint8_t *name, size_t name_length, uint8_t *slip, size_t slip_length);
 
 #ifdef __cplusplus
 }

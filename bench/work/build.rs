@@ -11,7 +11,7 @@
 use std::path::{Path, PathBuf};
 use std::process::Command;
 
-const FUNCTIONS: [&str; 15] = [
+const FUNCTIONS: [&str; 17] = [
     "memblock_fresh",
     "memblock_set",
     SET_IMAGE_END,
@@ -27,6 +27,8 @@ const FUNCTIONS: [&str; 15] = [
     "memblock_allocate",
     "memblock_intake_e820",
     INTAKE_TREE,
+    INTAKE_TREES,
+    LOOKUP,
 ];
 
 /// The function that an archive from before request E7 does not have.
@@ -34,6 +36,10 @@ const SET_IMAGE_END: &str = "memblock_set_image_end";
 
 /// The function that an archive from before request E8 does not have.
 const INTAKE_TREE: &str = "memblock_intake_tree";
+
+/// The functions that an archive from before request E9 does not have.
+const INTAKE_TREES: &str = "memblock_intake_trees";
+const LOOKUP: &str = "memblock_lookup";
 
 /// Before the names of the functions of the archive that BENCH_BEFORE names.
 const BEFORE: &str = "before_";
@@ -59,6 +65,9 @@ fn main() {
     let mut text = std::fs::read_to_string(library).expect("it stands beside build.rs");
     if !defines(&before, SET_IMAGE_END) {
         text = without_image_end(&text);
+    }
+    if !defines(&before, INTAKE_TREES) || !defines(&before, LOOKUP) {
+        text = without_pairs(&text);
     }
     if !defines(&before, INTAKE_TREE) {
         text = without_tree(&text);
@@ -113,6 +122,31 @@ fn without_tree(text: &str) -> String {
         "unreachable!(\"no function for a tree of {} bytes\", board.len())",
     )
     .replace("TREES: bool = true", "TREES: bool = false")
+}
+
+/// The text without the functions for a pair of trees: nothing calls them.
+fn without_pairs(text: &str) -> String {
+    let mut text = text.to_string();
+    for name in [INTAKE_TREES, LOOKUP] {
+        let declared = text.find(&format!("fn {name}(")).expect("it is declared");
+        let end = text[declared..].find(';').expect("it ends");
+        text.replace_range(declared..=declared + end, "");
+        let called = text.find(&format!("{name}(")).expect("it is called");
+        // Up to the parenthesis that closes the first.
+        let mut open = 0;
+        let close = text[called..].find(|letter| {
+            open += i32::from(letter == '(') - i32::from(letter == ')');
+            letter == ')' && open == 0
+        });
+        let close = called + close.expect("it closes");
+        text.replace_range(called..=close, "unreachable!(\"no function for pairs\")");
+    }
+    text.replace("PAIRS: bool = true", "PAIRS: bool = false")
+        .replace("Call::IntakeTrees(board, service)", "Call::IntakeTrees(..)")
+        .replace(
+            "Call::Lookup(service, board, path, name)",
+            "Call::Lookup(..)",
+        )
 }
 
 /// Whether an archive defines a function.

@@ -1,8 +1,8 @@
-/* A boot: the machine's memory map taken in as an E820 report and as a flattened tree, what is in use reserved, memory marked,
- * allocations in both directions, bottom-up above the image and the other way, each kind of refusal.
+/* A boot: the machine's memory map taken in as an E820 report and as a flattened tree, with corrections of a service tree too, what is in
+ * use reserved, memory marked, allocations in both directions, bottom-up above the image and the other way, each kind of refusal.
  *
  * Writes a line for each call, with its numbers, the number answered, a sum over the block's bytes and the slip, or a sum over the
- * bytes of the report, the tree or the old block; at the end both tables. tests/transcript replays the lines on the second program. Runs
+ * bytes of the report, the trees or the old block; at the end both tables. tests/transcript replays the lines on the second program. Runs
  * freestanding and hosted. */
 #include "boot.h"
 #include "memblock.h"
@@ -45,6 +45,11 @@ static size_t report_length;
 #define TREE_MOST KIB(32)
 static uint8_t tree[TREE_MOST + GUARD];
 static size_t tree_length;
+
+/* The service tree, which was the tree. */
+#define SERVICE_MOST KIB(2)
+static uint8_t service[SERVICE_MOST + GUARD];
+static size_t service_length;
 
 static const struct machine *machine;
 static uint64_t calls;
@@ -116,7 +121,7 @@ static uint64_t sum(const uint8_t *bytes, size_t length)
 
 /* A call's line. */
 
-static void begin(const char *function, const struct lent *lent, size_t length)
+static void begin_call(const char *function, const char *first, size_t length)
 {
     for (size_t i = 0; i < sizeof slip; i++)
         slip[i] = FILL;
@@ -124,8 +129,13 @@ static void begin(const char *function, const struct lent *lent, size_t length)
     text("memblock_");
     text(function);
     text("(");
-    text(lent->name);
+    text(first);
     named(", ", length);
+}
+
+static void begin(const char *function, const struct lent *lent, size_t length)
+{
+    begin_call(function, lent->name, length);
 }
 
 static void answered(const struct lent *lent, uint32_t number)
@@ -141,18 +151,24 @@ static uint32_t end(const struct lent *lent, uint32_t number)
     return number;
 }
 
-static uint32_t end_slip(const struct lent *lent, size_t slip_length, uint32_t number)
+static void slip_line(size_t slip_length)
 {
     size_t written = slip_length == MEMBLOCK_SLIP_LENGTH ? slip_length : 0;
     int kept = 1;
     for (size_t i = written; i < sizeof slip; i++)
         kept = kept && slip[i] == FILL;
-    answered(lent, number);
     if (written != 0) {
         named(" slip ", slip_base());
         named(" ", slip_end());
     }
-    text(kept ? "\n" : " wrote past the slip\n");
+    text(kept ? "" : " wrote past the slip");
+}
+
+static uint32_t end_slip(const struct lent *lent, size_t slip_length, uint32_t number)
+{
+    answered(lent, number);
+    slip_line(slip_length);
+    text("\n");
     return number;
 }
 
@@ -305,6 +321,68 @@ static uint32_t intake_tree(struct lent *lent, size_t length)
     return number;
 }
 
+static void trees_line(void)
+{
+    named(" tree ", sum(tree, sizeof tree));
+    named(" service ", sum(service, sizeof service));
+    text("\n");
+}
+
+/* The first bytes of the tree and of the service tree as they stand. */
+static uint32_t intake_trees(struct lent *lent, size_t length, size_t of_service)
+{
+    begin("intake_trees", lent, LENGTH);
+    named(", tree, ", length);
+    named(", service, ", of_service);
+    uint32_t number = memblock_intake_trees(lent->bytes, LENGTH, tree, length, service, of_service);
+    answered(lent, number);
+    trees_line();
+    return number;
+}
+
+static size_t text_length(const char *words)
+{
+    size_t length = 0;
+    while (words[length] != 0)
+        length++;
+    return length;
+}
+
+static uint32_t lookup_slip(size_t of_service, size_t length, const char *path, const char *name, size_t slip_length)
+{
+    begin_call("lookup", "service", of_service);
+    named(", tree, ", length);
+    text(", ");
+    text(path);
+    text(", ");
+    text(name);
+    named(", slip, ", slip_length);
+    uint32_t number = memblock_lookup(service, of_service, tree, length, (const uint8_t *)path, text_length(path), (const uint8_t *)name,
+                                      text_length(name), slip, slip_length);
+    named(") = ", number);
+    slip_line(slip_length);
+    trees_line();
+    return number;
+}
+
+/* Looks a value up, and writes its bytes as they stand in their tree. */
+static uint32_t lookup(const char *path, const char *name)
+{
+    uint32_t number = lookup_slip(service_length, tree_length, path, name, MEMBLOCK_SLIP_LENGTH);
+    if (number != MEMBLOCK_IN_SERVICE && number != MEMBLOCK_IN_BOARD)
+        return number;
+    const uint8_t *bytes = number == MEMBLOCK_IN_SERVICE ? service : tree;
+    size_t at = (size_t)number_at(slip, MEMBLOCK_SLIP_OFFSET_AT, 8);
+    size_t value_length = (size_t)number_at(slip, MEMBLOCK_SLIP_VALUE_LENGTH_AT, 8);
+    text("value ");
+    for (size_t i = 0; i < value_length; i++) {
+        char digits[2] = {"0123456789abcdef"[bytes[at + i] >> 4], "0123456789abcdef"[bytes[at + i] & 15]};
+        machine->write(digits, sizeof digits);
+    }
+    text("\n");
+    return number;
+}
+
 /* The first bytes of the old block as it stands. */
 static uint32_t convert(size_t old_length, struct lent *lent, size_t length)
 {
@@ -414,6 +492,15 @@ static void tree_pad(void)
         tree_byte((uint8_t)(0x80 + tree_length));
 }
 
+/* With the zero. */
+static void tree_bytes(const char *value)
+{
+    while (*value != 0)
+        tree_byte((uint8_t)*value++);
+    tree_byte(0);
+    tree_pad();
+}
+
 static void tree_begin(void)
 {
     for (size_t i = 0; i < sizeof tree; i++)
@@ -432,10 +519,7 @@ static void tree_pair(uint64_t base, uint64_t size)
 static void tree_node(const char *name)
 {
     tree_word(BEGIN_NODE);
-    while (*name != 0)
-        tree_byte((uint8_t)*name++);
-    tree_byte(0);
-    tree_pad();
+    tree_bytes(name);
 }
 
 static void tree_node_end(void)
@@ -484,10 +568,7 @@ static void tree_memory(void)
 {
     tree_node("memory");
     tree_property("device_type", 7);
-    for (const char *type = "memory"; *type != 0; type++)
-        tree_byte((uint8_t)*type);
-    tree_byte(0);
-    tree_pad();
+    tree_bytes("memory");
 }
 
 /* One range by cells 2 and 2. */
@@ -538,6 +619,24 @@ static void poke_tree(size_t at, uint8_t byte)
 {
     tree[at] = byte;
     named("poke tree ", at);
+    named(" ", byte);
+    text("\n");
+}
+
+/* The tree as it stands is the service tree from now on. */
+static void keep_as_service(void)
+{
+    for (size_t i = 0; i < sizeof service; i++)
+        service[i] = i < tree_length && i < SERVICE_MOST ? tree[i] : FILL;
+    service_length = tree_length < SERVICE_MOST ? tree_length : SERVICE_MOST;
+    named("service ", service_length);
+    text("\n");
+}
+
+static void poke_service(size_t at, uint8_t byte)
+{
+    service[at] = byte;
+    named("poke service ", at);
     named(" ", byte);
     text("\n");
 }
@@ -664,9 +763,13 @@ static void converted(void)
     convert(OLD_LENGTH, &mirror, LENGTH);
 }
 
-/* The machine's map as a tree: the usable entries as memory, of node 1 those above 4 GiB; what is in use, and the first page of each
- * usable entry, which is not mapped, under two /reserved-memory; the legacy area in the list, and an entry of size 0. Nodes to the
- * deepest level besides. */
+/* A page for a log, and where service has it. */
+#define LOG_PAGE (FAR_TAKEN + GIB(1))
+#define SERVICE_LOG (FAR_TAKEN + GIB(2))
+
+/* The machine's map as a tree: the usable entries as memory, of node 1 those above 4 GiB; what is in use, the page for a log, and the first
+ * page of each usable entry, which is not mapped, under two /reserved-memory; the legacy area in the list, and an entry of size 0. Nodes
+ * to the deepest level besides. */
 static void map_as_tree(unsigned deepest)
 {
     tree_begin();
@@ -700,28 +803,85 @@ static void map_as_tree(unsigned deepest)
         tree_range(machine->held[i].base, machine->held[i].size);
         tree_node_end();
     }
+    tree_node("log@1");
+    tree_range(LOG_PAGE, PAGE);
+    tree_node_end();
     tree_node_end();
     tree_end();
 }
 
-/* The same by calls, in the order that the intake has. */
-static void map_by_calls(struct lent *lent)
+/* A service tree: the log's range is another one, all memory is of node 2. Its own memory and its list say nothing. */
+static void build_service(void)
+{
+    tree_begin();
+    tree_pair(FAR_MEMORY, PAGE);
+    tree_root(2, 2);
+    tree_node("memory");
+    tree_cell("numa-node-id", 2);
+    tree_node_end();
+    tree_node("reserved-memory");
+    tree_node("log@1");
+    tree_range(SERVICE_LOG, 2 * PAGE);
+    tree_node_end();
+    tree_node_end();
+    tree_node("memory@far");
+    tree_property("device_type", 7);
+    tree_bytes("memory");
+    tree_range(FAR_MEMORY, PAGE);
+    tree_node_end();
+    tree_end();
+    keep_as_service();
+}
+
+/* The same by calls, in the order that the intake has, as it is or as service has it. */
+static void map_by_calls(struct lent *lent, int corrected)
 {
     for (size_t i = 0; i < machine->map_count; i++)
         if (machine->map[i].kind == MAP_USABLE)
-            add(lent, machine->map[i].base, machine->map[i].size, 0, machine->map[i].base >= GIB(4));
+            add(lent, machine->map[i].base, machine->map[i].size, 0, corrected ? 2 : machine->map[i].base >= GIB(4));
     RESERVE(lent, 0xA0000, 0x60000);
     for (size_t i = 0; i < machine->held_count; i++)
         RESERVE(lent, machine->held[i].base, machine->held[i].size);
+    RESERVE(lent, corrected ? SERVICE_LOG : LOG_PAGE, corrected ? 2 * PAGE : PAGE);
     for (size_t i = 0; i < machine->map_count; i++)
         if (machine->map[i].kind == MAP_USABLE)
             mark(lent, machine->map[i].base, PAGE, MEMBLOCK_NO_MAP);
 }
 
-/* The map as a tree gives the block that its commands give; one level more is refused, as is every other fault. Then the tree that the
- * machine has. */
+/* The map as a tree with what service corrects gives the block of these commands; a value is read in the tree that has it. */
+static void corrections(void)
+{
+    intake_trees(&by_tree, tree_length, 0);
+    intake_trees(&by_tree, tree_length - 1, service_length);
+    intake_trees(&by_tree, tree_length, service_length);
+    fresh(&by_calls, LENGTH);
+    map_by_calls(&by_calls, 1);
+    compare_two(&by_tree, &by_calls);
+
+    lookup("/reserved-memory/log@1", "reg"); /* the service tree has it */
+    lookup("/reserved-memory/held", "reg");  /* the board's, of the first of its nodes */
+    lookup("/memory", "device_type");
+    lookup("/", "#size-cells");
+    lookup("/reserved-memory/first-page", "no-map"); /* empty, and there */
+    lookup("/memory", "no-map");
+    lookup("/reserved-memory/log", "reg"); /* not the whole name */
+    lookup("memory", "reg");
+    lookup("", "reg");
+    static const size_t lengths[] = {0, MEMBLOCK_SLIP_LENGTH - 1, MEMBLOCK_SLIP_LENGTH + 1};
+    for (size_t i = 0; i < sizeof lengths / sizeof lengths[0]; i++)
+        lookup_slip(service_length, 0, "/memory", "reg", lengths[i]);
+    lookup_slip(service_length, tree_length - 1, "/memory", "numa-node-id", MEMBLOCK_SLIP_LENGTH);
+    poke_service(MEMBLOCK_TREE_MAGIC_AT, 0);
+    lookup_slip(service_length, tree_length, "/memory", "device_type", MEMBLOCK_SLIP_LENGTH);
+    intake_trees(&by_tree, tree_length, service_length);
+    poke_service(MEMBLOCK_TREE_MAGIC_AT, (uint8_t)(MEMBLOCK_TREE_MAGIC >> 24));
+}
+
+/* The map as a tree gives the block that its commands give; one level more is refused, as is every other fault. So with a service tree.
+ * Then the tree that the machine has. */
 static void trees(void)
 {
+    build_service();
     map_as_tree(MEMBLOCK_TREE_DEPTH + 1);
     fresh(&by_tree, LENGTH);
     intake_tree(&by_tree, tree_length);
@@ -741,11 +901,13 @@ static void trees(void)
     }
     intake_tree(&by_tree, tree_length);
     fresh(&by_calls, LENGTH);
-    map_by_calls(&by_calls);
+    map_by_calls(&by_calls, 0);
     compare_two(&by_tree, &by_calls);
     intake_tree(&by_tree, tree_length); /* a second time it changes nothing */
     intake_tree(&by_tree, tree_length + GUARD);
     compare_two(&by_tree, &by_calls);
+    fresh(&by_tree, LENGTH);
+    corrections();
     /* What a machine has. */
     if (machine->tree == NULL || machine->tree_length > TREE_MOST)
         return;
@@ -754,6 +916,11 @@ static void trees(void)
     for (size_t i = 0; i < machine->tree_length; i++)
         tree_byte(machine->tree[i]);
     tree_show();
+    fresh(&by_tree, LENGTH);
+    intake_trees(&by_tree, tree_length, service_length);
+    lookup("/", "#address-cells");
+    lookup("/", "model");
+    lookup("/", "compatible");
     fresh(&by_tree, LENGTH);
     intake_tree(&by_tree, tree_length);
 }
@@ -901,6 +1068,8 @@ static void bad_block(void)
     intake(&block, 1);
     intake_tree(&block, tree_length);
     intake_tree(&block, 0);
+    intake_trees(&block, tree_length, service_length);
+    intake_trees(&block, 0, 0);
     poke(&block, MEMBLOCK_MEMORY_TOTAL_AT, byte);
 }
 
@@ -985,6 +1154,7 @@ static void full_taken(struct lent *lent)
     tree_node_end();
     tree_end();
     intake_tree(lent, tree_length);
+    intake_trees(lent, tree_length, service_length);
     poke_tree(MEMBLOCK_TREE_HEADER_LENGTH + 8 - 2, (uint8_t)((last + PAGE) >> 8));
     poke_tree(MEMBLOCK_TREE_HEADER_LENGTH + 8 - 3, (uint8_t)((last + PAGE) >> 16));
     poke_tree(MEMBLOCK_TREE_HEADER_LENGTH + 8 - 4, (uint8_t)((last + PAGE) >> 24));

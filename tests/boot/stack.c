@@ -3,8 +3,9 @@
  * Each call runs on a painted stack of its own; the deepest byte that lost its paint says how much was used, bytes of the red zone
  * too. Twice with different paint, so that a byte written with the paint's own value is seen. The blocks have tables of several
  * fills up to full, with ranges on, beside and across their records, for free most of them on what is taken; some blocks, slips, reports,
- * trees and old blocks are bad. Fails when a function needs more than memblock.h says, or when a tree's intake needs another stack for
- * a large tree than for a small one, both with nodes of every level that is read. */
+ * trees and old blocks are bad. Fails when a function needs more than memblock.h says, or when an intake of one tree or two, or a lookup,
+ * needs another stack for large trees than for small ones, both with nodes, and paths, of every level that is read. Prints what each
+ * needs; with --header as the lines of memblock.h. */
 #include "memblock.h"
 
 #include <stdio.h>
@@ -46,7 +47,7 @@ __asm__(".text\n"
         "    popq %rbp\n"
         "    ret\n");
 
-enum numbers { NONE, LIMIT, IMAGE_END, RANGE_TAG, RANGE_FLAG, RANGE, TAKEN_RANGE, ALIGNMENT, FROM, SEARCH, REPORT, TREE, OLD };
+enum numbers { NONE, LIMIT, IMAGE_END, RANGE_TAG, RANGE_FLAG, RANGE, TAKEN_RANGE, ALIGNMENT, FROM, SEARCH, REPORT, TREE, TREES, LOOKUP, OLD };
 
 static struct function {
     const char *name;
@@ -71,6 +72,8 @@ static struct function {
     {"allocate", (void (*)(void))memblock_allocate, SEARCH, MEMBLOCK_STACK_ALLOCATE, 0, 0, 0},
     {"intake_e820", (void (*)(void))memblock_intake_e820, REPORT, MEMBLOCK_STACK_INTAKE_E820, 0, 0, 0},
     {"intake_tree", (void (*)(void))memblock_intake_tree, TREE, MEMBLOCK_STACK_INTAKE_TREE, 0, 0, 0},
+    {"intake_trees", (void (*)(void))memblock_intake_trees, TREES, MEMBLOCK_STACK_INTAKE_TREES, 0, 0, 0},
+    {"lookup", (void (*)(void))memblock_lookup, LOOKUP, MEMBLOCK_STACK_LOOKUP, 0, 0, 0},
     {"convert", (void (*)(void))memblock_convert, OLD, MEMBLOCK_STACK_CONVERT, 0, 0, 0},
 };
 
@@ -194,9 +197,9 @@ static size_t choose_report(void)
     return (size_t)(entry - report) + (below(50) == 0 && count <= MEMBLOCK_REPORT_ENTRIES);
 }
 
-/* A tree, from its front; what does not fit is left out, and the tree then bad. */
-static uint8_t tree[1 << 20];
-static size_t tree_length;
+/* A tree, from its front; what does not fit is left out, and the tree then bad. A service tree is put together there too, and kept. */
+static uint8_t tree[1 << 20], service[1 << 20];
+static size_t tree_length, service_length;
 
 static void tree_number(size_t length, uint64_t number)
 {
@@ -272,40 +275,28 @@ static void tree_nodes(unsigned levels, unsigned large)
     tree_end_nodes(levels);
 }
 
-/* A tree whose nodes reach this level. Of ranges as many as asked for, of each kind: apart, or where they are wide over each other.
- * Large gives it so many times more nodes. */
-static void build_tree(unsigned deepest, size_t list, size_t adds, size_t reserves, size_t marks, int wide, unsigned large)
+#define LEVELS_7 "level/level/level/level/level/level/level"
+#define LEVELS_14 LEVELS_7 "/" LEVELS_7
+
+/* The names of two nodes: as they are, or so that their paths have the bytes of as many levels as are read. */
+static const char *memory_name, *reserved_name;
+
+static void name_nodes(int deep)
+{
+    memory_name = deep ? "level/" LEVELS_14 : "memory";
+    reserved_name = deep ? LEVELS_14 : "reserved";
+}
+
+static void tree_begin(void)
 {
     tree_length = 0;
     while (tree_length < MEMBLOCK_TREE_HEADER_LENGTH)
         tree_number(4, 0);
-    for (size_t i = 0; i < list; i++) {
-        tree_number(8, 0x80000000 + 0x2000 * i);
-        tree_number(8, 0x1000);
-    }
-    tree_number(8, 0);
-    tree_number(8, 0);
-    size_t structure_at = tree_length;
-    tree_node("");
-    tree_property(ADDRESS_CELLS, "\0\0\0\2", 4);
-    tree_property(SIZE_CELLS, "\0\0\0\2", 4);
-    for (unsigned i = 0; i <= large; i++)
-        tree_nodes(deepest - 1, large);
-    tree_node("memory");
-    tree_property(DEVICE_TYPE, "memory", 7);
-    tree_property(NODE_ID, "\0\0\0\1", 4);
-    tree_ranges(adds, wide ? 0x5000 : 0x1000);
-    tree_nodes(deepest - 2, large);
-    tree_end_nodes(1);
-    tree_node("reserved-memory");
-    tree_node("reserved");
-    tree_ranges(reserves, wide ? 0x5000 : 0x1000);
-    tree_nodes(deepest - 3, large);
-    tree_end_nodes(1);
-    tree_node("marked");
-    tree_ranges(marks, wide ? 0x5000 : 0x800);
-    tree_property(NO_MAP, "", 0);
-    tree_end_nodes(3);
+}
+
+/* The end token, the strings and the header. */
+static void tree_finish(size_t structure_at)
+{
     tree_number(4, END);
     size_t strings_at = tree_length;
     for (size_t i = 0; i < sizeof NAMES; i++)
@@ -321,15 +312,91 @@ static void build_tree(unsigned deepest, size_t list, size_t adds, size_t reserv
     tree_field(MEMBLOCK_TREE_STRUCTURE_LENGTH_AT, strings_at - structure_at);
 }
 
+/* A service tree whose nodes reach this level: so many times nodes on the whole way that have nothing, and then those that have a node id
+ * for the memory of a deep name, and a no-map for what is reserved. */
+static void build_service(unsigned deepest, unsigned large)
+{
+    tree_begin();
+    tree_number(8, 0);
+    tree_number(8, 0);
+    size_t structure_at = tree_length;
+    tree_node("");
+    for (unsigned i = 0; i <= 2 * large; i++) {
+        for (unsigned level = 2; level <= deepest; level++)
+            tree_node("level");
+        if (i == 2 * large)
+            tree_property(NODE_ID, "\0\0\0\2", 4);
+        tree_end_nodes(deepest - 1);
+        tree_node("reserved-memory");
+        for (unsigned level = 3; level <= deepest; level++)
+            tree_node("level");
+        if (i == 2 * large)
+            tree_property(NO_MAP, "", 0);
+        tree_end_nodes(deepest - 1);
+    }
+    tree_end_nodes(1);
+    tree_finish(structure_at);
+    memcpy(service, tree, tree_length);
+    service_length = tree_length;
+}
+
+/* A tree whose nodes reach this level. Of ranges as many as asked for, of each kind: apart, or where they are wide over each other.
+ * Large gives it so many times more nodes. */
+static void build_tree(unsigned deepest, size_t list, size_t adds, size_t reserves, size_t marks, int wide, unsigned large)
+{
+    tree_begin();
+    for (size_t i = 0; i < list; i++) {
+        tree_number(8, 0x80000000 + 0x2000 * i);
+        tree_number(8, 0x1000);
+    }
+    tree_number(8, 0);
+    tree_number(8, 0);
+    size_t structure_at = tree_length;
+    tree_node("");
+    tree_property(ADDRESS_CELLS, "\0\0\0\2", 4);
+    tree_property(SIZE_CELLS, "\0\0\0\2", 4);
+    for (unsigned i = 0; i <= large; i++)
+        tree_nodes(deepest - 1, large);
+    tree_node(memory_name);
+    tree_property(DEVICE_TYPE, "memory", 7);
+    tree_property(NODE_ID, "\0\0\0\1", 4);
+    tree_ranges(adds, wide ? 0x5000 : 0x1000);
+    tree_nodes(deepest - 2, large);
+    tree_end_nodes(1);
+    tree_node("reserved-memory");
+    tree_node(reserved_name);
+    tree_ranges(reserves, wide ? 0x5000 : 0x1000);
+    tree_nodes(deepest - 3, large);
+    tree_end_nodes(1);
+    tree_node("marked");
+    tree_ranges(marks, wide ? 0x5000 : 0x800);
+    tree_property(NO_MAP, "", 0);
+    tree_end_nodes(3);
+    tree_finish(structure_at);
+}
+
 /* Most to the deepest level, some with as many ranges as a table has room for, some bad; answers the tree's length. */
 static size_t choose_tree(void)
 {
+    name_nodes(below(2) == 0);
     unsigned deepest = below(4) == 0 ? 4 + (unsigned)below(MEMBLOCK_TREE_DEPTH - 2) : MEMBLOCK_TREE_DEPTH;
     build_tree(deepest, below(8) == 0 ? 513 : below(3), below(8) == 0 ? 127 + below(3) : 0, below(16) == 0 ? 511 + below(3) : 0,
                below(8) == 0 ? 64 + below(2) : 0, 0, 0);
     if (below(8) == 0)
         tree[below(tree_length)] ^= 1;
     return tree_length - (below(20) == 0);
+}
+
+/* A service tree with nodes on the way to all that matters, or one chosen as a board's; answers its length. */
+static size_t choose_service(void)
+{
+    if (below(2) == 0) {
+        build_service(below(8) == 0 ? MEMBLOCK_TREE_DEPTH + 1 : MEMBLOCK_TREE_DEPTH, (unsigned)below(2));
+        return service_length;
+    }
+    size_t length = choose_tree();
+    memcpy(service, tree, length);
+    return length;
 }
 
 /* Answers how many arguments there are. */
@@ -390,6 +457,28 @@ static size_t choose(enum numbers numbers, uint64_t *arguments)
         arguments[n++] = (uint64_t)(uintptr_t)tree;
         arguments[n++] = choose_tree();
         return n;
+    case TREES:
+        arguments[n + 2] = (uint64_t)(uintptr_t)service;
+        arguments[n + 3] = choose_service();
+        arguments[n++] = (uint64_t)(uintptr_t)tree;
+        arguments[n++] = choose_tree();
+        return n + 2;
+    case LOOKUP: {
+        static const char *const paths[] = {"/level/" LEVELS_14, "/reserved-memory/" LEVELS_14, "/level/" LEVELS_14 "/level", "/memory",
+                                            "/reserved-memory/reserved", "/level/" LEVELS_7, "/", "//", "level", ""};
+        static const char *const names[] = {"reg", "device_type", "no-map", "numa-node-id", "#size-cells", ""};
+        const char *path = paths[below(sizeof paths / sizeof paths[0])], *name = names[below(sizeof names / sizeof names[0])];
+        n = 0;
+        arguments[n++] = (uint64_t)(uintptr_t)service;
+        arguments[n++] = choose_service();
+        arguments[n++] = (uint64_t)(uintptr_t)tree;
+        arguments[n++] = choose_tree();
+        arguments[n++] = (uint64_t)(uintptr_t)path;
+        arguments[n++] = strlen(path);
+        arguments[n++] = (uint64_t)(uintptr_t)name;
+        arguments[n++] = strlen(name);
+        break;
+    }
     case FROM:
         arguments[n++] = address();
         arguments[n++] = node();
@@ -436,7 +525,8 @@ static void measure(struct function *function)
     size_t deepest = depth_of(function->call, arguments, count, &number);
     if (deepest > function->deepest)
         function->deepest = deepest;
-    if (number == MEMBLOCK_DONE)
+    int found = function->numbers == LOOKUP && (number == MEMBLOCK_IN_SERVICE || number == MEMBLOCK_IN_BOARD);
+    if (number == MEMBLOCK_DONE || found)
         function->done++;
     else
         function->refused++;
@@ -446,6 +536,7 @@ static void measure(struct function *function)
  * level more, which is refused with 11. Tells the most, and answers whether large ones need another stack than small ones. */
 static int small_and_large(size_t *most)
 {
+    name_nodes(0);
     static const uint32_t numbers[] = {MEMBLOCK_TABLE_FULL, MEMBLOCK_TABLE_FULL, MEMBLOCK_TABLE_FULL,
                                        MEMBLOCK_TABLE_FULL, MEMBLOCK_DONE,       MEMBLOCK_BAD_TREE};
     enum { MEMORY, LIST, RESERVED, MARKS, DONE, TOO_DEEP, KINDS };
@@ -479,8 +570,77 @@ static int small_and_large(size_t *most)
     return wrong;
 }
 
-int main(void)
+/* The same of pairs, on the whole way down in both trees: an intake that is done, refused with 6 and with 11, and lookups that find the
+ * value at the end of each tree's way, and none. Tells the most of each function. */
+static int pairs_small_and_large(size_t most[2])
 {
+    static const uint32_t numbers[] = {MEMBLOCK_DONE, MEMBLOCK_TABLE_FULL, MEMBLOCK_BAD_TREE};
+    static const char path[] = "/level/" LEVELS_14, reserved[] = "/reserved-memory/" LEVELS_14;
+    static const struct {
+        const char *path, *name;
+        uint32_t number;
+    } lookups[] = {{path, "numa-node-id", MEMBLOCK_IN_SERVICE},
+                   {reserved, "no-map", MEMBLOCK_IN_SERVICE},
+                   {path, "device_type", MEMBLOCK_IN_BOARD},
+                   {reserved, "reg", MEMBLOCK_IN_BOARD},
+                   {path, "#size-cells", MEMBLOCK_IN_NEITHER},
+                   {reserved, "", MEMBLOCK_IN_NEITHER}};
+    size_t deepest[2][2] = {{0}};
+    size_t lengths[2] = {0};
+    int wrong = 0;
+    name_nodes(1);
+    for (unsigned large = 0; large < 2; large++)
+        for (unsigned kind = 0; kind < 3; kind++) {
+            uint32_t number;
+            fill_tables(kind == 0 ? 0 : 100, 10, 0, 1);
+            build_service(MEMBLOCK_TREE_DEPTH, large * 40);
+            build_tree(MEMBLOCK_TREE_DEPTH + (kind == 2), 2, kind == 1 ? 40 : 5, 2, 5, kind == 0, large * 40);
+            uint64_t trees[] = {(uint64_t)(uintptr_t)block,   sizeof block, (uint64_t)(uintptr_t)tree, tree_length,
+                                (uint64_t)(uintptr_t)service, service_length};
+            size_t depth = depth_of((void (*)(void))memblock_intake_trees, trees, 6, &number);
+            if (number != numbers[kind]) {
+                printf("stack: a pair of kind %u answers %u, not %u: WRONG\n", kind, (unsigned)number, (unsigned)numbers[kind]);
+                wrong = 1;
+            }
+            if (depth > deepest[large][0])
+                deepest[large][0] = depth;
+            if (tree_length + service_length > lengths[large])
+                lengths[large] = tree_length + service_length;
+            for (size_t i = 0; i < sizeof lookups / sizeof lookups[0]; i++) {
+                uint64_t arguments[] = {trees[4],
+                                        trees[5],
+                                        trees[2],
+                                        trees[3],
+                                        (uint64_t)(uintptr_t)lookups[i].path,
+                                        strlen(lookups[i].path),
+                                        (uint64_t)(uintptr_t)lookups[i].name,
+                                        strlen(lookups[i].name),
+                                        (uint64_t)(uintptr_t)slip,
+                                        sizeof slip};
+                uint32_t wanted = kind == 2 ? MEMBLOCK_BAD_TREE : lookups[i].number;
+                depth = depth_of((void (*)(void))memblock_lookup, arguments, 10, &number);
+                if (number != wanted) {
+                    printf("stack: lookup %zu answers %u, not %u: WRONG\n", i, (unsigned)number, (unsigned)wanted);
+                    wrong = 1;
+                }
+                if (depth > deepest[large][1])
+                    deepest[large][1] = depth;
+            }
+        }
+    wrong |= lengths[1] < 20 * lengths[0];
+    for (unsigned i = 0; i < 2; i++) {
+        int differ = deepest[0][i] != deepest[1][i];
+        printf("stack: memblock_%s %zu bytes for pairs of up to %zu bytes, %zu for pairs of up to %zu%s\n", i == 0 ? "intake_trees" : "lookup",
+               deepest[0][i], lengths[0], deepest[1][i], lengths[1], differ || wrong ? ": WRONG" : "");
+        wrong |= differ;
+        most[i] = deepest[1][i] > deepest[0][i] ? deepest[1][i] : deepest[0][i];
+    }
+    return wrong;
+}
+
+int main(int argument_count, char **arguments)
+{
+    int as_header = argument_count == 2 && strcmp(arguments[1], "--header") == 0;
     static const unsigned memory[] = {0, 1, 60, MEMBLOCK_MEMORY_CAPACITY - 1, MEMBLOCK_MEMORY_CAPACITY};
     static const unsigned taken[] = {0, 1, 60, 128, 300, MEMBLOCK_TAKEN_CAPACITY - 1, MEMBLOCK_TAKEN_CAPACITY};
     size_t count = sizeof functions / sizeof functions[0];
@@ -498,20 +658,33 @@ int main(void)
                 for (size_t i = 0; i < count; i++)
                     measure(&functions[i]);
             }
-    for (size_t i = 0; i < count; i++)
-        if (functions[i].numbers == TREE) {
-            size_t most;
-            wrong |= small_and_large(&most);
-            if (most > functions[i].deepest)
-                functions[i].deepest = most;
-        }
+    size_t most[3];
+    wrong |= small_and_large(&most[0]);
+    wrong |= pairs_small_and_large(&most[1]);
+    for (size_t i = 0; i < count; i++) {
+        enum numbers numbers = functions[i].numbers;
+        size_t of_trees = numbers == TREE ? most[0] : numbers == TREES ? most[1] : numbers == LOOKUP ? most[2] : 0;
+        if (of_trees > functions[i].deepest)
+            functions[i].deepest = of_trees;
+    }
+    size_t all = 0;
     for (size_t i = 0; i < count; i++) {
         const struct function *f = &functions[i];
         size_t needs = (f->deepest + 63) / 64 * 64;
         int bad = needs > f->said || f->deepest > STACK - 1024 || f->done == 0 || f->refused == 0;
-        printf("stack: memblock_%s %zu bytes, %zu rounded up, memblock.h says %zu%s\n", f->name, f->deepest, needs, f->said,
-               bad ? ": WRONG" : "");
         wrong |= bad;
+        all = needs > all ? needs : all;
+        if (!as_header) {
+            printf("stack: memblock_%s %zu bytes, %zu rounded up, memblock.h says %zu%s\n", f->name, f->deepest, needs, f->said,
+                   bad ? ": WRONG" : "");
+            continue;
+        }
+        printf("#define MEMBLOCK_STACK_");
+        for (const char *letter = f->name; *letter != 0; letter++)
+            putchar(*letter >= 'a' && *letter <= 'z' ? *letter - 'a' + 'A' : *letter);
+        printf(" %zu\n", needs);
     }
+    if (as_header)
+        printf("#define MEMBLOCK_STACK %zu /* the most of these */\n", all);
     return wrong;
 }

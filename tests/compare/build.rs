@@ -8,7 +8,7 @@
 use std::path::{Path, PathBuf};
 use std::process::Command;
 
-const FUNCTIONS: [&str; 16] = [
+const FUNCTIONS: [&str; 18] = [
     "memblock_fresh",
     "memblock_set",
     "memblock_set_image_end",
@@ -24,6 +24,8 @@ const FUNCTIONS: [&str; 16] = [
     "memblock_allocate",
     "memblock_intake_e820",
     "memblock_intake_tree",
+    "memblock_intake_trees",
+    "memblock_lookup",
     "memblock_convert",
 ];
 

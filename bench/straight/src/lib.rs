@@ -1,7 +1,8 @@
-//! The twelve commands of document 01, the E820 intake of request E1 and the tree's
-//! intake of request E8, on the block of request E4, with the flags and wishes of request
-//! E6, the image end of request E7 and the frees of request E10, as plain Rust: the program that the
-//! library's speed is held against. Same rules, same numbers, same bytes.
+//! The twelve commands of document 01, the E820 intake of request E1, the tree's intake of
+//! request E8, the pair's intake and the lookup of request E9, on the block of request E4,
+//! with the flags and wishes of request E6, the image end of request E7 and the frees of
+//! request E10, as plain Rust: the program that the library's speed is held against. Same
+//! rules, same numbers, same bytes.
 
 #![forbid(unsafe_code)]
 
@@ -30,6 +31,11 @@ pub const BAD_SLIP: u32 = 8;
 pub const BAD_REPORT: u32 = 10;
 pub const BAD_TREE: u32 = 11;
 pub const NOT_TAKEN: u32 = 12;
+
+/// What a lookup answers.
+pub const IN_NEITHER: u32 = 0;
+pub const IN_SERVICE: u32 = 1;
+pub const IN_BOARD: u32 = 2;
 
 /// The node that means any.
 pub const ANY_NODE: u32 = u32::MAX;
@@ -153,8 +159,44 @@ pub fn intake_tree(block: &mut [u8], board: &[u8]) -> u32 {
     let Some(asked) = tree::read(board) else {
         return BAD_TREE;
     };
+    take_in(&mut block, &asked)
+}
+
+#[inline(never)]
+pub fn intake_trees(block: &mut [u8], board: &[u8], service: &[u8]) -> u32 {
+    let Some(mut block) = Block::check(block) else {
+        return BAD_BLOCK;
+    };
+    let Some(asked) = tree::read_pair(board, service) else {
+        return BAD_TREE;
+    };
+    take_in(&mut block, &asked)
+}
+
+#[inline(never)]
+pub fn lookup(service: &[u8], board: &[u8], path: &[u8], name: &[u8], slip: &mut [u8]) -> u32 {
+    let mut found = IN_NEITHER;
+    let number = with_slip(slip, || {
+        let in_service = tree::lookup(service, path, name).ok_or(BAD_TREE)?;
+        let in_board = tree::lookup(board, path, name).ok_or(BAD_TREE)?;
+        let (holder, place) = match (in_service, in_board) {
+            (Some(place), _) => (IN_SERVICE, place),
+            (None, Some(place)) => (IN_BOARD, place),
+            (None, None) => (IN_NEITHER, (0, 0)),
+        };
+        found = holder;
+        Ok((place.0 as u64, place.1 as u64))
+    });
+    match number {
+        DONE => found,
+        number => number,
+    }
+}
+
+/// Does what is asked, all or nothing.
+fn take_in(block: &mut Block<&mut [u8]>, asked: &tree::Asked) -> u32 {
     let saved = block.saved_whole();
-    let number = do_asked(&mut block, &asked);
+    let number = do_asked(block, asked);
     if number != DONE {
         block.restore_whole(&saved);
     }

@@ -72,6 +72,11 @@ pub fn random_calls<Other: Side>(calls: u64) {
             }
         }
     }
+    let looked = if Other::PAIRS {
+        pairs::<Other>(&mut rng, calls / 20, &mut seen)
+    } else {
+        0
+    };
     // 8 needs a slip of another length and is left to the tests; there is no 9.
     let met = |number: usize| seen[number] > 0 || number == 11 && !Other::TREES;
     assert!((0..8).chain(10..13).all(met), "not every number met");
@@ -87,9 +92,40 @@ pub fn random_calls<Other: Side>(calls: u64) {
     );
     println!(
         "bench: {} random calls on library and {}, all equal",
-        seen.iter().sum::<u64>(),
+        seen.iter().sum::<u64>() + looked,
         Other::NAME
     );
+}
+
+/// So many intakes of pairs of trees, and as many lookups, how many of which there were.
+fn pairs<Other: Side>(rng: &mut Rng, count: u64, seen: &mut [u64; 13]) -> u64 {
+    let mut found = [0u64; 12];
+    for turn in 0..count {
+        let mut other = trees::rng::Rng::new(rng.next(), "equal pairs", 0);
+        let shift = shift(turn % 2 == 0);
+        let pair = trees::service::some(&mut other, &mut |other| {
+            (other.below(4000) << shift, other.below(960))
+        });
+        let (mut board, mut service) = (pair.board_bytes, pair.service_bytes);
+        match rng.between(0, 19) {
+            0 => board = trees::broken::damaged(&mut other, board),
+            1 => service = trees::broken::damaged(&mut other, service),
+            _ => {}
+        }
+        let mut block = Block::fresh();
+        let call = Call::IntakeTrees(&board, &service);
+        seen[call_both::<Other>(call, &mut block) as usize] += 1;
+        let listing = match rng.between(0, 1) {
+            0 => pair.board.listing(),
+            _ => pair.service.listing(),
+        };
+        let (_, path, name) = trees::service::some_aim(&mut other, &listing);
+        let call = Call::Lookup(&service, &board, &path, &name);
+        found[call_both::<Other>(call, &mut block) as usize] += 1;
+    }
+    let met = [0, 1, 2, 11].map(|number: usize| found[number]);
+    assert!(met.iter().all(|&count| count > 0), "an answer never met");
+    count
 }
 
 /// How far above the image end a bottom-up search gives an address, if there is an image.

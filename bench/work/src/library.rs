@@ -1,6 +1,6 @@
 // The functions of an archive. This text is compiled three times: for the archive that is measured, and by build.rs under other names for an earlier one,
-// as it is and without flag and wish, which the functions take since request E6; without the image end and the tree, where the earlier one has no
-// function for it.
+// as it is and without flag and wish, which the functions take since request E6; without the image end, the tree and the pair, where the earlier one has
+// no function for it.
 
 use crate::sides::{Block, Call, Side, Slip, LENGTH};
 
@@ -24,6 +24,9 @@ extern "C" {
         node: u32, wish: u32, slip: *mut u8, slip_len: usize) -> u32;
     fn memblock_intake_e820(block: *mut u8, len: usize, report: *const u8, report_len: usize) -> u32;
     fn memblock_intake_tree(block: *mut u8, len: usize, board: *const u8, board_len: usize) -> u32;
+    fn memblock_intake_trees(block: *mut u8, len: usize, board: *const u8, board_len: usize, service: *const u8, service_len: usize) -> u32;
+    fn memblock_lookup(service: *const u8, service_len: usize, board: *const u8, board_len: usize,
+        path: *const u8, path_len: usize, name: *const u8, name_len: usize, slip: *mut u8, slip_len: usize) -> u32;
 }
 
 pub struct Library;
@@ -31,12 +34,13 @@ pub struct Library;
 impl Side for Library {
     const NAME: &'static str = "library";
     const TREES: bool = true;
+    const PAIRS: bool = true;
 
     fn call(call: Call, block: &mut Block, slip: &mut Slip) -> u32 {
         let (b, n) = (block.0.as_mut_ptr(), LENGTH);
         let (s, m) = (slip.as_mut_ptr(), slip.len());
         // Block and slip are whole, writable and apart: they are two `&mut`. The
-        // report and the tree are only read.
+        // report, the trees, path and name are only read.
         unsafe {
             match call {
                 Call::Fresh => memblock_fresh(b, n),
@@ -60,6 +64,26 @@ impl Side for Library {
                 }
                 Call::Intake(report) => memblock_intake_e820(b, n, report.as_ptr(), report.len()),
                 Call::IntakeTree(board) => memblock_intake_tree(b, n, board.as_ptr(), board.len()),
+                Call::IntakeTrees(board, service) => memblock_intake_trees(
+                    b,
+                    n,
+                    board.as_ptr(),
+                    board.len(),
+                    service.as_ptr(),
+                    service.len(),
+                ),
+                Call::Lookup(service, board, path, name) => memblock_lookup(
+                    service.as_ptr(),
+                    service.len(),
+                    board.as_ptr(),
+                    board.len(),
+                    path.as_ptr(),
+                    path.len(),
+                    name.as_ptr(),
+                    name.len(),
+                    s,
+                    m,
+                ),
             }
         }
     }

@@ -22,7 +22,7 @@ impl Block {
     }
 }
 
-/// What find, allocate and next free write.
+/// What find, allocate, next free and a lookup write.
 pub type Slip = [u8; 16];
 
 #[derive(Clone, Copy, Debug)]
@@ -47,6 +47,10 @@ pub enum Call<'a> {
     Intake(&'a [u8]),
     /// The tree's bytes.
     IntakeTree(&'a [u8]),
+    /// Board, service.
+    IntakeTrees(&'a [u8], &'a [u8]),
+    /// Service, board, path, name.
+    Lookup(&'a [u8], &'a [u8], &'a [u8], &'a [u8]),
 }
 
 /// The 20 bytes of an entry of an E820 report.
@@ -60,8 +64,9 @@ pub fn entry(base: u64, size: u64, kind: u32) -> [u8; 20] {
 
 pub trait Side {
     const NAME: &'static str;
-    /// Whether there is a function for trees.
+    /// Whether there is a function for trees, and those for pairs of them.
     const TREES: bool;
+    const PAIRS: bool;
 
     fn call(call: Call, block: &mut Block, slip: &mut Slip) -> u32;
 }
@@ -71,6 +76,7 @@ pub struct Straight;
 impl Side for Straight {
     const NAME: &'static str = "straightforward";
     const TREES: bool = true;
+    const PAIRS: bool = true;
 
     fn call(call: Call, block: &mut Block, slip: &mut Slip) -> u32 {
         let b = &mut block.0;
@@ -94,6 +100,10 @@ impl Side for Straight {
             }
             Call::Intake(report) => straight::intake_e820(b, report),
             Call::IntakeTree(board) => straight::intake_tree(b, board),
+            Call::IntakeTrees(board, service) => straight::intake_trees(b, board, service),
+            Call::Lookup(service, board, path, name) => {
+                straight::lookup(service, board, path, name, slip)
+            }
         }
     }
 }

@@ -1,5 +1,5 @@
 //! The intake of flattened trees: stored ones, and made ones of several sizes, whose time
-//! for each byte shows how it grows.
+//! for each byte shows how it grows; then stored ones with a service tree, and lookups.
 
 use crate::library::Library;
 use crate::sides::{call_both, Block, Call, Side, LENGTH};
@@ -7,7 +7,7 @@ use crate::time::{clock, middle, nanoseconds};
 use std::hint::black_box;
 use std::time::Instant;
 use trees::node::{reg, word, DEPTH};
-use trees::{stored, Piece, Sketch, Tree};
+use trees::{stored, Node, Piece, Sketch, Tree};
 
 /// The sizes of made trees, in bytes, nearly.
 const SIZES: [usize; 3] = [1 << 12, 1 << 16, 1 << 20];
@@ -119,10 +119,9 @@ fn rooted(cells: u32, size: usize, pieces: &[Piece]) -> Sketch {
 /// How long each side's calls on one tree may take in all, in nanoseconds, nearly.
 const LONG: f64 = 2e8;
 
-/// Nanoseconds of one call on a fresh block, of both sides in turn.
-fn times<Other: Side>(board: &[u8], clock: f64) -> (f64, f64) {
-    let call = Call::IntakeTree(board);
-    assert_eq!(call_both::<Other>(call, &mut Block::fresh()), 0);
+/// Nanoseconds of one call on a fresh block that gives this number, of both sides in turn.
+fn times<Other: Side>(call: Call, number: u32, clock: f64) -> (f64, f64) {
+    assert_eq!(call_both::<Other>(call, &mut Block::fresh()), number);
     let saved = Block::fresh();
     let mut block = Block([0; LENGTH]);
     let once = time::<Library>(call, &saved, &mut block);
@@ -144,10 +143,66 @@ fn times<Other: Side>(board: &[u8], clock: f64) -> (f64, f64) {
 fn time<S: Side>(call: Call, saved: &Block, block: &mut Block) -> f64 {
     block.0.copy_from_slice(&saved.0);
     let start = Instant::now();
-    let number = S::call(black_box(call), black_box(block), &mut [0; 16]);
-    let time = nanoseconds(start);
-    assert_eq!(black_box(number), 0, "a tree refused");
-    time
+    black_box(S::call(black_box(call), black_box(block), &mut [0; 16]));
+    nanoseconds(start)
+}
+
+/// Real trees with the path of a memory node and the last property.
+const PAIRS: [(&str, &str, [&str; 2]); 3] = [
+    (
+        "arm-virt-numa",
+        "/memory@40000000",
+        ["/chosen", "kaslr-seed"],
+    ),
+    (
+        "riscv-virt-numa",
+        "/memory@80000000",
+        ["/soc/clint@2010000", "compatible"],
+    ),
+    (
+        "sifive-u",
+        "/memory@80000000",
+        ["/soc/clint@2000000", "compatible"],
+    ),
+];
+
+/// A service tree as one might be sent: a node id, a range that is reserved, a text.
+fn small_service(memory: &str) -> Vec<u8> {
+    let memory = Node::new(&memory[1..]).with("numa-node-id", word(1));
+    let log = Node::new("log@0").with("reg", reg((2, 2), &[(0, 0x1000)]));
+    let root = Node::new("")
+        .with("model", "corrected\0")
+        .holding(memory)
+        .holding(Node::new("reserved-memory").holding(log));
+    let list = Vec::new();
+    Sketch::of(&Tree { list, root }).bytes()
+}
+
+/// Prints the times of pairs, and of lookups in them.
+fn print_pairs<Other: Side>(clock: f64) {
+    if !Other::PAIRS {
+        println!("bench: pairs left out: the archive beside has no functions for them");
+        return;
+    }
+    println!(
+        "bench: a stored tree with a small service tree, its intake on a fresh block and the \
+         lookup of its last property, ns, library/{} and ratio",
+        Other::NAME
+    );
+    for (name, memory, [path, property]) in PAIRS {
+        let board = stored::all().find(|tree| tree.name == name);
+        let board = board.expect("it is stored").bytes;
+        let service = small_service(memory);
+        let intake = Call::IntakeTrees(board, &service);
+        let lookup = Call::Lookup(&service, board, path.as_bytes(), property.as_bytes());
+        print!("{name:28} {:>6} bytes", board.len());
+        for (call, number) in [(intake, straight::DONE), (lookup, straight::IN_BOARD)] {
+            let (library, other) = times::<Other>(call, number, clock);
+            let times = format!("{library:.0}/{other:.0} {:.2}", library / other);
+            print!(" {times:>20}");
+        }
+        println!();
+    }
 }
 
 /// Prints the times of stored trees, then for each byte of made ones.
@@ -162,7 +217,7 @@ pub fn print<Other: Side>() {
         Other::NAME
     );
     for tree in stored::all() {
-        let (library, other) = times::<Other>(tree.bytes, clock);
+        let (library, other) = times::<Other>(Call::IntakeTree(tree.bytes), 0, clock);
         println!(
             "{:28} {:>6} bytes {:>20}",
             tree.name,
@@ -186,7 +241,7 @@ pub fn print<Other: Side>() {
         let mut each = Vec::new();
         for size in SIZES {
             let board = shape(size);
-            let (library, other) = times::<Other>(&board, clock);
+            let (library, other) = times::<Other>(Call::IntakeTree(&board), 0, clock);
             let bytes = board.len() as f64;
             print!(
                 " {:>18}",
@@ -201,4 +256,5 @@ pub fn print<Other: Side>() {
         }
         println!(" {:>6.2}", each[SIZES.len() - 1] / each[0]);
     }
+    print_pairs::<Other>(clock);
 }

@@ -1,4 +1,4 @@
--- A small board's tree: what it asks for, and that it is not read with one byte other, by computation. Assumes nothing.
+-- A small board's tree: what it asks for, that it is not read with one byte other, and what corrections change, by computation. Assumes nothing.
 use Prim.Native.Nat.{ℕ, _+_}
 use mathlib.Core.Path.{_≡_, refl}
 use mathlib.Core.Bool.{true, false}
@@ -15,7 +15,9 @@ use Rattle.tree.specs.Header.{pairs, ended, beforeEnd, header, list, parts, for
 use Rattle.lookup.specs.Values.{same, valueOf, childrenIn, steps, path}
 use Rattle.values.specs.Names.{addressCells, deviceType, memory, reg, numaNodeId, noMap, reservedMemory}
 use Rattle.values.specs.Values.{every, those, joined, values}
+use Rattle.paths.specs.Lookup.{listing, firstOf, lookup}
 use Rattle.board.specs.Board.{entries, commands, readable, asks}
+use Rattle.board.specs.Pairs.{readablePair, asksPair}
 
 -- ---- the tree
 
@@ -131,3 +133,32 @@ node-63-read = refl
 pub node-64-refused : readable (with 171 64) ≡ false
 unfolding big toZero beginOf propertyOf plainOf tokenOf token size tokensUpTo follows named formed contents same valueOf childrenIn steps path pairs ended header list parts form every those joined values readable
 node-64-refused = refl
+
+-- ---- corrected by a service tree
+
+-- no reservations, the structure block at 56, the same names behind it
+abbrev service : List ℕ → List ℕ
+service inner =
+    join
+    ((208 ∷ 13 ∷ 254 ∷ 237 ∷ []) ∷ w (56 + length inner + 67) ∷ w 56 ∷ w (56 + length inner + 16) ∷ w 40 ∷ w 17 ∷ w 16 ∷ w 0 ∷ w 51 ∷ w (length inner + 16)
+    ∷ w 0 ∷ w 0 ∷ w 0 ∷ w 0 ∷ w 1 ∷ (0 ∷ 170 ∷ 170 ∷ 170 ∷ []) ∷ inner ∷ w 2 ∷ w 9 ∷ names ∷ [])
+
+-- the memory node with another node id
+abbrev ram : ℕ → List ℕ
+ram id = join (w 1 ∷ (114 ∷ 97 ∷ 109 ∷ 0 ∷ []) ∷ has 31 (w id) ∷ w 2 ∷ [])
+
+-- the reserved node with no-map
+abbrev unmapped : List ℕ
+unmapped = join (w 1 ∷ reservedMemory ∷ (0 ∷ []) ∷ w 1 ∷ (102 ∷ 119 ∷ 0 ∷ 170 ∷ []) ∷ has 44 [] ∷ w 2 ∷ w 2 ∷ [])
+
+-- a node id of 64 makes number 11 come; one of 3 makes it go where the board says 64
+pub corrected-refused : (readablePair board (service (ram 64)) ≡ false) × (readablePair (with 171 64) (service (ram 3)) ≡ true)
+unfolding big toZero beginOf propertyOf plainOf tokenOf token size tokensUpTo follows named formed contents same valueOf childrenIn steps path pairs ended header list parts form every those joined values listing firstOf lookup readablePair
+corrected-refused = (refl, refl)
+
+-- another node, and a mark in the place of a reservation
+pub corrected-asked : asksPair board (service (ram 5 ++ unmapped))
+    ≡ command (Add (tag 0 5)) 0x80000000 0x1000 ∷ command (Add (tag 0 5)) 0x90000000 0x2000 ∷ command Reserve 0x70000000 0x1000
+    ∷ command (Mark 4) 0x80000000 0x100 ∷ command (Mark 4) 0x80000800 0x80 ∷ []
+unfolding big toZero beginOf propertyOf plainOf tokenOf token size tokensUpTo named contents same valueOf childrenIn steps path pairs beforeEnd entries those joined commands listing firstOf lookup asksPair
+corrected-asked = refl

@@ -10,7 +10,7 @@ use Rattle.block.specs.Block.{current, good}
 use Rattle.range.specs.Outcomes.{tag}
 use Rattle.tables.specs.declared.commands.Verb.{Verb}
 use Rattle.tables.specs.declared.commands.Verb.the-variants.{Add, Mark, Reserve}
-use Rattle.tables.specs.Commands.{Command, command, legalVerb, strict}
+use Rattle.tables.specs.Commands.{Command, legalVerb, strict}
 use Rattle.intake.specs.Turns.{steps, inTurn}
 use Rattle.intake.proofs.Whole.{checked-good}
 use Rattle.intake.proofs.Good.{DoneOrFull, commands-good, commands-number}
@@ -20,12 +20,18 @@ use Rattle.tree.specs.Header.{Range, form, root, strings, reservations}
 use Rattle.tree.proofs.Booleans.{both}
 use Rattle.lookup.specs.Values.{Node, Value, absent, present}
 use Rattle.values.specs.Names.{reg, numaNodeId}
-use Rattle.values.specs.Values.{Get, own, has, numberOr, numberFrom, every, joined, aCells, sCells, memories, reserved, rootCells, wholeReg, nodeId, values}
+use Rattle.values.specs.Values.{Get, own, numberOr, numberFrom, every, joined, aCells, sCells, memories, reserved, rootCells, wholeReg, nodeId, values}
 use Rattle.board.specs.Board.{ranges, onRanges, onReg, adds, reserves, marks, commands, readable, asks, intakeTree}
+use Rattle.board.specs.Pairs.{pairGet, readablePair, asksPair, intakeTrees}
 
 pub tree-good : (tree b : List ℕ) → good current b ≡ true → good current (intakeTree current tree b .block) ≡ true
 unfolding intakeTree
 tree-good tree b g = checked-good 11 (readable tree) (steps current (asks tree)) b g (commands-good (asks tree) b g)
+
+pub pair-good : (board service b : List ℕ) → good current b ≡ true → good current (intakeTrees current board service b .block) ≡ true
+unfolding intakeTrees
+pair-good board service b g =
+    checked-good 11 (readablePair board service) (steps current (asksPair board service)) b g (commands-good (asksPair board service) b g)
 
 -- ---- the verbs of a tree's commands
 
@@ -96,13 +102,22 @@ asks-number tree e b g =
     let get = own (strings tree) in
     commands-number (commands get (root tree) (reservations tree)) (commands-legal get (root tree) (both (form tree) (values get (root tree)) e .1) (reservations tree)) b g
 
--- ---- what a tree has taken is reserved, what it has marked is marked no-map
+pub pair-number : (board service : List ℕ) → readablePair board service ≡ true → (b : List ℕ) → good current b ≡ true
+    → DoneOrFull (inTurn (steps current (asksPair board service)) b)
+unfolding readablePair asksPair
+pair-number board service e b g =
+    let get = pairGet board service in
+    commands-number (commands get (root board) (reservations board))
+    (commands-legal get (root board) (both (form board && form service) (values get (root board)) e .1) (reservations board)) b g
 
-module _ (tree : List ℕ) where
-  pub taken-reserved : All (λ v. v ≡ Reserve) (onRanges Reserve (reservations tree) ++ reserves (own (strings tree)) (root tree))
+-- ---- what a board has taken is reserved, what it has marked is marked no-map
+
+module _ (get : Get) (top : Content) (list : List Range) where
+  pub taken-reserved : All (λ v. v ≡ Reserve) (onRanges Reserve list ++ reserves get top)
   taken-reserved =
-      both-all (λ v. v ≡ Reserve) (onRanges Reserve (reservations tree)) (reserves (own (strings tree)) (root tree))
-      (ranges-all (λ v. v ≡ Reserve) Reserve refl (reservations tree)) (regs-all (own (strings tree)) (root tree) (λ v. v ≡ Reserve) Reserve refl _)
+      both-all (λ v. v ≡ Reserve) (onRanges Reserve list) (reserves get top) (ranges-all (λ v. v ≡ Reserve) Reserve refl list)
+      (regs-all get top (λ v. v ≡ Reserve) Reserve refl _)
 
-  pub marked-no-map : All (λ v. v ≡ Mark 4) (marks (own (strings tree)) (root tree))
-  marked-no-map = regs-all (own (strings tree)) (root tree) (λ v. v ≡ Mark 4) (Mark 4) refl _
+module _ (get : Get) (top : Content) where
+  pub marked-no-map : All (λ v. v ≡ Mark 4) (marks get top)
+  marked-no-map = regs-all get top (λ v. v ≡ Mark 4) (Mark 4) refl _

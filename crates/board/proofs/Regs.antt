@@ -17,17 +17,17 @@ use Rattle.tables.specs.Commands.{command, commandOutcome}
 use Rattle.intake.specs.Turns.{steps, inTurn}
 use Rattle.intake.proofs.Turns.{commands-refused, commands-next, turn-last}
 use Rattle.tree.specs.Words.{big}
-use Rattle.tree.specs.Content.{Content}
 use Rattle.tree.specs.Header.{Range, pair, pairs, beforeEnd}
-use Rattle.lookup.specs.Values.{absent, valueOf}
-use Rattle.lookup.specs.Steps.{FoundIn}
-use Rattle.lookup.specs.declared.Found.{Found}
-use Rattle.lookup.specs.declared.Found.the-variants.{At, Nothing}
+use Rattle.lookup.specs.Values.{Node}
 use Rattle.board.specs.declared.ranges.Cells.{Cells}
 use Rattle.values.specs.Names.{reg}
-use Rattle.board.specs.Board.{entries, ranges, onRanges}
+use Rattle.values.specs.Values.{Get}
+use Rattle.values.specs.Steps.{holds, GotIn}
+use Rattle.values.specs.declared.Got.{Got}
+use Rattle.values.specs.declared.Got.the-variants.{At, Nothing}
+use Rattle.board.specs.Board.{entries, onRanges}
 use Rattle.board.specs.Steps.{OneOrTwo, regCommands}
-use Rattle.values.proofs.Properties.{found-at}
+use Rattle.values.proofs.Properties.{got-none, got-at}
 
 -- ---- ranges in turn
 
@@ -119,17 +119,28 @@ module _ (v : Verb) (c : Cells) (few : OneOrTwo c) (l : List ℕ) (at : ℕ) (b 
 
 -- ---- a node's reg
 
-module _ (strings : List ℕ) (cells : Cells) (v : Verb) (c : Content) (l : List ℕ) (r : Found) (g : FoundIn l (valueOf strings reg c) r) (b : List ℕ) where
-  pub no-reg : r ≡ Nothing → outcome 0 b ≡ inTurn (steps current (regCommands strings cells v c)) b
+module _ (get : Get) (cells : Cells) (v : Verb) (x : Node) (service l : List ℕ) (r : Got) (g : GotIn service l (get x reg) r) (b : List ℕ) where
+  pub no-reg : r ≡ Nothing → outcome 0 b ≡ inTurn (steps current (regCommands get cells v x)) b
   unfolding inTurn
-  no-reg e = let p : valueOf strings reg c ≡ absent = g .is ∙ rw e refl in rw p refl
+  no-reg e = rw (got-none service l (get x reg) r g e) refl
 
-  pub reg-at : (a n : ℕ) → r ≡ At a n → (o : Outcome)
-      → o ≡ inTurn (steps current (onRanges v (entries (length (take (a + n - a) (drop a l)) / (4 * (cells .address + cells .size))) (cells .address) (cells .size) (take (a + n - a) (drop a l))))) b
-      → o ≡ inTurn (steps current (regCommands strings cells v c)) b
-  reg-at a n e o q =
-      let w : a + n - a ≡ n = omega arith in
-      rw (found-at l (valueOf strings reg c) r g a n e, ← w) q
+  module _ (corrected : Bool) (a n : ℕ) (e : r ≡ At corrected a n) (o : Outcome) where
+    by-bytes : (y : List ℕ) → holds service l corrected ≡ y
+        → o ≡ inTurn (steps current (onRanges v (entries (length (take (a + n - a) (drop a y)) / (4 * (cells .address + cells .size))) (cells .address) (cells .size) (take (a + n - a) (drop a y))))) b
+        → o ≡ inTurn (steps current (regCommands get cells v x)) b
+    by-bytes y h q =
+        let w : a + n - a ≡ n = omega arith in
+        rw (got-at service l (get x reg) r g corrected a n e, h, ← w) q
+
+    pub reg-corrected : corrected ≡ true
+        → o ≡ inTurn (steps current (onRanges v (entries (length (take (a + n - a) (drop a service)) / (4 * (cells .address + cells .size))) (cells .address) (cells .size) (take (a + n - a) (drop a service))))) b
+        → o ≡ inTurn (steps current (regCommands get cells v x)) b
+    reg-corrected c = by-bytes service (rw c refl)
+
+    pub reg-own : corrected ≡ false
+        → o ≡ inTurn (steps current (onRanges v (entries (length (take (a + n - a) (drop a l)) / (4 * (cells .address + cells .size))) (cells .address) (cells .size) (take (a + n - a) (drop a l))))) b
+        → o ≡ inTurn (steps current (regCommands get cells v x)) b
+    reg-own c = by-bytes l (rw c refl)
 
 -- ---- the reservation list
 

@@ -1,34 +1,37 @@
--- A board's tree is taken in whole or not at all: refusals in their order, and what is asked of a tree that has the form. Assumes nothing.
-use Prim.Native.Nat.{ℕ, _+_, _*_, _/_, _≤_, _<_}
+-- A board's tree is taken in whole or not at all, alone or corrected by a service tree: refusals in their order, and what is asked of trees that have the
+-- form. Assumes nothing.
+use Prim.Native.Nat.{ℕ, _+_, _-_, _*_, _/_, _≤_, _<_}
 use mathlib.Core.Path.{_≡_, refl, sym, ap, _∙_}
-use mathlib.Core.Bool.{Bool, true, false, cond, not, _&&_, false≢true}
-use mathlib.Core.List.{List}
+use mathlib.Core.Bool.{Bool, true, false, cond, not, _&&_}
+use mathlib.Core.List.{List, []}
 use native.Mathlib.Omega.{arith}
 use lib.Dec.{leb, eqb}
-use lib.ListN.{length}
+use lib.ListN.{length, take, drop}
 use borrow.Author.Tests.{leb-true}
 use Rattle.block.specs.declared.Layout.{Layout}
 use Rattle.block.specs.Block.{current, good}
 use Rattle.block.proofs.Blocks.{good-here, bad-here}
-use Rattle.range.specs.Outcomes.{Outcome, outcome, unless}
+use Rattle.range.specs.Outcomes.{Outcome, outcome}
 use Rattle.tables.specs.Commands.{Command}
 use Rattle.intake.specs.Turns.{steps, wholly}
 use Rattle.tree.specs.Words.{word}
-use Rattle.tree.specs.Form.{named, formed}
-use Rattle.tree.specs.Content.{Content}
-use Rattle.tree.specs.Header.{structure, strings, listed, pairs, beforeEnd, header, parts, form, root}
-use Rattle.tree.specs.Steps.{restAt, contentsAt, RootIs, RootPast, contentAt}
-use Rattle.tree.specs.declared.reader.Read.{Read}
-use Rattle.tree.specs.declared.reader.Read.the-variants.{Past, Refused}
+use Rattle.tree.specs.Tokens.{tokensUpTo}
+use Rattle.tree.specs.Content.{Content, contents}
+use Rattle.tree.specs.Places.{located}
+use Rattle.tree.specs.Header.{structure, strings, listed, pairs, beforeEnd, form, root}
+use Rattle.tree.specs.Steps.{contentsAt, valued, contentAt, RootOf}
+use Rattle.tree.specs.declared.reader.Root.{Root}
 use Rattle.tree.proofs.Booleans.{both}
-use Rattle.tree.proofs.Heading.{header-whole}
-use Rattle.lookup.specs.Values.{Value, absent, present, valueOf}
+use Rattle.tree.proofs.Placing.{root-said}
+use Rattle.lookup.specs.Values.{Value, absent, present}
+use Rattle.paths.specs.Lookup.{listing, firstOf, lookup}
 use Rattle.values.specs.Names.{addressCells, sizeCells}
-use Rattle.values.specs.Values.{own, numberOr, numberFrom, aCells, sCells, rootCells, values}
-use Rattle.board.specs.Board.{commands, readable, asks, intakeTree}
-use Rattle.values.specs.Steps.{cellsOf, childrenOk}
-use Rattle.board.specs.Steps.{OneOrTwo, turns}
+use Rattle.values.specs.Values.{Get, own, numberOr, numberFrom, rootNode, aCells, sCells, rootCells}
+use Rattle.values.specs.Steps.{MayCorrect, corrected, gets, cellsOf, childrenOk}
 use Rattle.values.proofs.OneByOne.{values-are}
+use Rattle.board.specs.Board.{readable, asks, intakeTree}
+use Rattle.board.specs.Pairs.{readablePair, asksPair, intakeTrees}
+use Rattle.board.specs.Steps.{OneOrTwo, turns, takingRanges, taking, takingBoard}
 use Rattle.board.proofs.Asks.{commands-are}
 
 -- ---- cells
@@ -62,123 +65,122 @@ module _ (d : ℕ) (some : 0 < d) (few : d ≤ 2) (v : Value) (a : ℕ) (is : a 
       go true p q = let n = number-some d some few v p in record { bounds = p; is = q; some = omega (arith, n .0); few = omega (arith, n .1) }
       go false p q = absurd (e q)
 
--- ---- a tree that has the form
+-- ---- a tree that has the form: its values, then its commands
 
-module _ (tree : List ℕ) (f : form tree ≡ true) where
-  form-parted : (header tree ≡ true) × (parts tree && formed (strings tree) (structure tree) ≡ true)
-  unfolding form
-  form-parted = both (header tree) (parts tree && formed (strings tree) (structure tree)) f
+module _ (get : Get) (names : ℕ) (s : List ℕ) (at : ℕ) (list b : List ℕ) where
+  abbrev top : Content
+  top = contentAt names s at
 
-  pub formed-header : 40 ≤ length tree
-  formed-header = header-whole tree true (sym (form-parted .0)) refl
+  abbrev taken : Outcome
+  taken = taking get top list b
 
-  pub formed-parts : parts tree ≡ true
-  formed-parts = both (parts tree) (formed (strings tree) (structure tree)) (form-parted .1) .0
+  refused-here : rootCells get top && childrenOk get (4 * (aCells get top + sCells get top)) top ≡ false → outcome 11 b ≡ taken
+  unfolding takingRanges
+  refused-here h = rw (values-are get top, h) refl
 
-  formed-block : formed (strings tree) (structure tree) ≡ true
-  formed-block = both (parts tree) (formed (strings tree) (structure tree)) (form-parted .1) .1
+  module _ (a : ℕ) (ea : a ≡ cellsOf 2 (get (record { way = []; content = contentAt names s at }) addressCells)) where
+    pub no-address : a ≡ 0 → outcome 11 b ≡ taken
+    no-address z = refused-here (rw (no-cells 2 (omega arith) (omega arith) (get (rootNode get top) addressCells) a ea z) refl)
 
-  module _ (st s : List ℕ) (p : st ≡ strings tree) (q : s ≡ structure tree) (names : ℕ) (n : names ≡ named st) (r : Read) (k : RootIs names s r) (b : List ℕ) where
-    follows-whole : restAt names s 0 false 0 ≡ true
-    unfolding formed restAt
-    follows-whole = rw (n, p, q) formed-block
+    module _ (sa : a ≡ 0 → ⊥) (c : ℕ) (ec : c ≡ cellsOf 1 (get (record { way = []; content = contentAt names s at }) sizeCells)) where
+      fa : Few 2 (get (rootNode get top) addressCells) a
+      fa = some-cells 2 (omega arith) (omega arith) (get (rootNode get top) addressCells) a ea sa
 
-    pub root-there : r ≡ Refused → ⊥
-    root-there e = false≢true (sym (rw e at k) ∙ follows-whole)
+      pub no-size : c ≡ 0 → outcome 11 b ≡ taken
+      no-size z = refused-here (rw (fa .bounds, no-cells 1 (omega arith) (omega arith) (get (rootNode get top) sizeCells) c ec z) refl)
 
-    module _ (at : ℕ) (e : r ≡ Past at) where
-      past : RootPast names s at
-      past = rw e at k
+      module _ (sc : c ≡ 0 → ⊥) where
+        fc : Few 1 (get (rootNode get top) sizeCells) c
+        fc = some-cells 1 (omega arith) (omega arith) (get (rootNode get top) sizeCells) c ec sc
 
-      pub root-within : at ≤ length s
-      root-within = past .within
+        pub few-cells : OneOrTwo (record { address = a; size = c })
+        few-cells = record { someAddress = fa .some; fewAddress = fa .few; someSize = fc .some; fewSize = fc .few }
 
-      pub root-goes : restAt names s 1 false at ≡ true
-      root-goes = sym (past .is) ∙ follows-whole
+        cells-hold : rootCells get top ≡ true
+        cells-hold = rw (fa .bounds, fc .bounds) refl
 
-      top-is : root tree ≡ contentAt names s at
-      unfolding contentsAt
-      top-is = rw (← p, ← q, ← n) (past .says)
+        same-width : 4 * (aCells get top + sCells get top) ≡ 4 * (a + c)
+        same-width = rw (← fa .is, ← fc .is) refl
 
-      abbrev top : Content
-      top = contentAt names s at
+        module _ (t : Bool) (et : t ≡ childrenOk get (4 * (a + c)) (contentAt names s at)) where
+          pub bad-values : t ≡ false → outcome 11 b ≡ taken
+          bad-values z = refused-here (rw (cells-hold, same-width, ← et, z) refl)
 
-      values-here : readable tree ≡ rootCells (own st) top && childrenOk st (4 * (aCells (own st) top + sCells (own st) top)) top
-      unfolding readable
-      values-here = rw f ((λ i. values (own (sym p i)) (top-is i)) ∙ values-are st top)
+          pub good-values : t ≡ true → (o : Outcome) → o ≡ wholly (steps current (turns get (record { address = a; size = c }) list (contentAt names s at))) b → o ≡ taken
+          unfolding takingRanges
+          good-values z o eo =
+              rw (values-are get top, cells-hold, same-width, ← et, z)
+              (eo ∙ ap (λ (cs : List Command). wholly (steps current cs) b)
+              (sym (commands-are get (record { address = a; size = c }) top (fa .is) (fc .is) list)))
 
-      refused-here : rootCells (own st) top && childrenOk st (4 * (aCells (own st) top + sCells (own st) top)) top ≡ false
-          → outcome 11 b ≡ unless (readable tree) 11 b (wholly (steps current (asks tree)) b)
-      refused-here h = rw (values-here, h) refl
+-- ---- the board's root, and the service tree's
 
-      module _ (a : ℕ) (ea : a ≡ cellsOf 2 (valueOf st addressCells (contentAt names s at))) where
-        pub no-address : a ≡ 0 → outcome 11 b ≡ unless (readable tree) 11 b (wholly (steps current (asks tree)) b)
-        no-address z = refused-here (rw (no-cells 2 (omega arith) (omega arith) (valueOf st addressCells top) a ea z) refl)
+module _ (tree : List ℕ) (f : form tree ≡ true) (st s : List ℕ) (p : st ≡ strings tree) (q : s ≡ structure tree) (r : Root) (k : RootOf st s r) where
+  top-is : contentAt (r .names) s (r .at) ≡ root tree
+  top-is = sym (rw (← p, ← q) (root-said st s r k))
 
-        module _ (sa : a ≡ 0 → ⊥) (c : ℕ) (ec : c ≡ cellsOf 1 (valueOf st sizeCells (contentAt names s at))) where
-          fa : Few 2 (valueOf st addressCells top) a
-          fa = some-cells 2 (omega arith) (omega arith) (valueOf st addressCells top) a ea sa
+  -- of the board
+  pub board-taken : (fixes : Root) (ss service l : List ℕ) → l ≡ listed tree → (b : List ℕ) (o : Outcome)
+      → o ≡ taking (gets (record { names = r .names; service = fixes }) ss service st) (contentAt (r .names) s (r .at)) l b
+      → o ≡ takingBoard (corrected ss (contentAt (fixes .names) service (fixes .at)) (own (strings tree))) tree b
+  board-taken fixes ss service l e b o h =
+      h ∙ (λ i. takingRanges (corrected ss (contentAt (fixes .names) service (fixes .at)) (own (p i))) (top-is i) (beforeEnd (pairs (length (e i) / 16) (e i))) b)
 
-          pub no-size : c ≡ 0 → outcome 11 b ≡ unless (readable tree) 11 b (wholly (steps current (asks tree)) b)
-          no-size z = refused-here (rw (fa .bounds, no-cells 1 (omega arith) (omega arith) (valueOf st sizeCells top) c ec z) refl)
+  pub root-corrects : MayCorrect r s
+  root-corrects = record { may = λ h. record { within = k .is .within; goes = k .goes } }
 
-          module _ (sc : c ≡ 0 → ⊥) where
-            fc : Few 1 (valueOf st sizeCells top) c
-            fc = some-cells 1 (omega arith) (omega arith) (valueOf st sizeCells top) c ec sc
+  -- of the service tree
+  pub service-taken : (board b : List ℕ) (o : Outcome) → o ≡ takingBoard (corrected st (contentAt (r .names) s (r .at)) (own (strings board))) board b
+      → o ≡ takingBoard (corrected (strings tree) (root tree) (own (strings board))) board b
+  service-taken board b o h = h ∙ (λ i. takingBoard (corrected (p i) (top-is i) (own (strings board))) board b)
 
-            pub few-cells : OneOrTwo (record { address = a; size = c })
-            few-cells = record { someAddress = fa .some; fewAddress = fa .few; someSize = fc .some; fewSize = fc .few }
-
-            cells-hold : rootCells (own st) top ≡ true
-            cells-hold = rw (fa .bounds, fc .bounds) refl
-
-            same-width : 4 * (aCells (own st) top + sCells (own st) top) ≡ 4 * (a + c)
-            same-width = rw (← fa .is, ← fc .is) refl
-
-            module _ (t : Bool) (et : t ≡ childrenOk st (4 * (a + c)) (contentAt names s at)) where
-              pub bad-values : t ≡ false → outcome 11 b ≡ unless (readable tree) 11 b (wholly (steps current (asks tree)) b)
-              bad-values z = refused-here (rw (cells-hold, same-width, ← et, z) refl)
-
-              good-values : t ≡ true → (l : List ℕ) → l ≡ listed tree → (o : Outcome) → o ≡ wholly (steps current (turns st (record { address = a; size = c }) l (contentAt names s at))) b
-                  → o ≡ unless (readable tree) 11 b (wholly (steps current (asks tree)) b)
-              unfolding asks
-              good-values z l el o eo =
-                  rw (values-here, cells-hold, same-width, ← et, z)
-                  (eo ∙ ap (λ (cs : List Command). wholly (steps current cs) b)
-                  (sym (commands-are st (record { address = a; size = c }) top (fa .is) (fc .is) l)
-                  ∙ (λ i. commands (own (p i)) (sym top-is i) (beforeEnd (pairs (length (el i) / 16) (el i))))))
-
--- the same, in the code's own order
-pub values-taken : (tree : List ℕ) → form tree ≡ true → (st s : List ℕ) → st ≡ strings tree → s ≡ structure tree → (names : ℕ) → names ≡ named st → (r : Read) → RootIs names s r
-    → (b : List ℕ) (at a : ℕ) → a ≡ cellsOf 2 (valueOf st addressCells (contentAt names s at)) → (a ≡ 0 → ⊥)
-    → (c : ℕ) → c ≡ cellsOf 1 (valueOf st sizeCells (contentAt names s at)) → (c ≡ 0 → ⊥)
-    → (t : Bool) → t ≡ childrenOk st (4 * (a + c)) (contentAt names s at) → t ≡ true → (l : List ℕ) → l ≡ listed tree
-    → (o : Outcome) → o ≡ wholly (steps current (turns st (record { address = a; size = c }) l (contentAt names s at))) b → r ≡ Past at
-    → o ≡ unless (readable tree) 11 b (wholly (steps current (asks tree)) b)
-values-taken tree f st s p q names n r k b at a ea sa c ec sc t et z l el o eo e = good-values tree f st s p q names n r k b at e a ea sa c ec sc t et z l el o eo
-
-pub width-some : (a c : ℕ) → (a ≡ 0 → ⊥) → 0 < 4 * (a + c)
-width-some a c h = omega arith
+-- no service tree
+pub none-corrects : (board : List ℕ) → MayCorrect (record { names = 0; at = 0 }) (take (0 - 0) (drop 0 board))
+none-corrects board = record { may = λ h. absurd (h refl) }
 
 -- ---- the checks
 
-module _ (L : Layout) (w : L ≡ current) (b : List ℕ) (g : Bool) (q : g ≡ good L b) (tree : List ℕ) where
-  pub not-good : not g ≡ true → outcome 1 b ≡ intakeTree current tree b
-  unfolding intakeTree
-  not-good h = rw (bad-here L w b g q h) refl
-
+module _ (L : Layout) (w : L ≡ current) (b : List ℕ) (g : Bool) (q : g ≡ good L b) where
   module _ (h : not g ≡ false) where
     pub is-good : good current b ≡ true
     is-good = good-here L w b g q h
 
-    module _ (t : Bool) (p : t ≡ form tree) where
+  module _ (tree : List ℕ) where
+    pub not-good : not g ≡ true → outcome 1 b ≡ intakeTree current tree b
+    unfolding intakeTree
+    not-good h = rw (bad-here L w b g q h) refl
+
+    module _ (h : not g ≡ false) (t : Bool) (p : t ≡ form tree) where
       pub has-no-form : t ≡ false → outcome 11 b ≡ intakeTree current tree b
       unfolding intakeTree readable
-      has-no-form e = rw (is-good, ← p, e) refl
+      has-no-form e = rw (is-good h, ← p, e) refl
 
       pub with-form : t ≡ true → form tree ≡ true
       with-form e = sym p ∙ e
 
-      pub taken-in : (o : Outcome) → o ≡ unless (readable tree) 11 b (wholly (steps current (asks tree)) b) → o ≡ intakeTree current tree b
-      unfolding intakeTree
-      taken-in o e = rw is-good e
+      -- no bytes correct nothing
+      pub taken-alone : t ≡ true → (o : Outcome)
+          → o ≡ takingBoard (corrected (take (0 - 0) (drop 0 tree)) (contentAt 0 (take (0 - 0) (drop 0 tree)) 0) (own (strings tree))) tree b → o ≡ intakeTree current tree b
+      unfolding intakeTree readable asks takingRanges contentsAt tokensUpTo located contents valued listing firstOf
+      taken-alone e o z = z ∙ rw (is-good h, ← p, e) refl
+
+  module _ (board service : List ℕ) where
+    pub pair-not-good : not g ≡ true → outcome 1 b ≡ intakeTrees current board service b
+    unfolding intakeTrees
+    pair-not-good h = rw (bad-here L w b g q h) refl
+
+    module _ (h : not g ≡ false) (t : Bool) (p : t ≡ form board && form service) where
+      pub pair-no-form : t ≡ false → outcome 11 b ≡ intakeTrees current board service b
+      unfolding intakeTrees readablePair
+      pair-no-form e = rw (is-good h, ← p, e) refl
+
+      module _ (e : t ≡ true) where
+        pub board-form : form board ≡ true
+        board-form = both (form board) (form service) (sym p ∙ e) .0
+
+        pub service-form : form service ≡ true
+        service-form = both (form board) (form service) (sym p ∙ e) .1
+
+        pub pair-taken : (o : Outcome) → o ≡ takingBoard (corrected (strings service) (root service) (own (strings board))) board b → o ≡ intakeTrees current board service b
+        unfolding intakeTrees readablePair asksPair takingRanges lookup
+        pair-taken o z = z ∙ rw (is-good h, ← p, e) refl

@@ -1,13 +1,15 @@
 // Ranges of a tree, taken in: those of a reg, and those of the reservation list.
 use address::Address;
 use address::Size;
-use lookup::Found;
-use lookup::find_property;
 use tables::commands::Verb;
 use tables::commands::on_good;
 use tree::header::is_end;
 use tree::words::double_at;
 use tree::words::word_at;
+use values::Got;
+use values::Pair;
+use values::Way;
+use values::get;
 ghost use mathlib.Core.Path.{_≡_};
 ghost use mathlib.Core.Bool.{true};
 ghost use Prim.Native.Nat.{_+_, _*_, _/_, _≤_, _<_};
@@ -19,7 +21,7 @@ ghost use Rattle.tables.specs.declared.commands.Verb.the-variants.{Reserve};
 ghost use Rattle.intake.specs.Turns.{steps, inTurn};
 ghost use Rattle.tree.specs.Words.{big};
 ghost use Rattle.tree.specs.Header.{pairs, beforeEnd};
-ghost use Rattle.tree.specs.Steps.{contentAt};
+ghost use Rattle.values.specs.Steps.{Sources, WayIn, nodeAt, gets};
 ghost use Rattle.board.specs.Board.{entries, onRanges};
 ghost use Rattle.board.specs.Steps.{OneOrTwo, regCommands};
 
@@ -63,19 +65,26 @@ fn take_ranges(block: &mut [u8], verb: Verb, value: &[u8], cells: Cells) -> u32
 pub fn take_reg(
     block: &mut [u8],
     verb: Verb,
+    ss: &[u8],
+    service: &[u8],
     strings: &[u8],
-    names: usize,
     s: &[u8],
+    pair: Pair,
     cells: Cells,
+    way: Way,
     at: usize,
 ) -> u32
-    requires { ⌜ (good current (now block) ≡ true) × (legalVerb verb ≡ true) × (OneOrTwo cells) × (at ≤ length (now s)) ⌝ }
-    ensures { λ r. ⌜ outcome r (now (block .exit)) ≡ inTurn (steps current (regCommands (now (strings .entry)) cells verb (contentAt names (now (s .entry)) at))) (now (block .entry)) ⌝ }
+    requires { ⌜ (good current (now block) ≡ true) × (legalVerb verb ≡ true) × (OneOrTwo cells) × (Sources pair (now service) (now s)) × (WayIn (now s) way) × (at ≤ length (now s)) ⌝ }
+    ensures { λ r. ⌜ outcome r (now (block .exit)) ≡ inTurn (steps current (regCommands (gets pair (now (ss .entry)) (now (service .entry)) (now (strings .entry))) cells verb (nodeAt pair (now (s .entry)) way at))) (now (block .entry)) ⌝ }
 {
-    let found = find_property(strings, names, s, b"reg", at);
-    let Found::At(a, n) = found else {
+    let got = get(ss, service, strings, s, pair, way, at, b"reg");
+    let Got::At(corrected, a, n) = got else {
         return 0;
     };
+    if corrected {
+        let end = a + n;
+        return take_ranges(block, verb, &service[a..end], cells);
+    }
     let end = a + n;
     take_ranges(block, verb, &s[a..end], cells)
 }

@@ -4,12 +4,12 @@ use mathlib.Core.Path.{_≡_, refl, sym, ap, _∙_}
 use mathlib.Core.Bool.{true, false}
 use mathlib.Core.List.{List, [], _∷_}
 use native.Mathlib.Omega.{arith}
-use lib.ListN.{length, drop}
+use lib.ListN.{length, drop, take}
 use borrow.Author.Tests.{lt-ltb, ne-eqb}
 use Rattle.tree.specs.Tokens.{Token, begin, end, property, nop, stop, broken, token, tokens}
 use Rattle.tree.specs.Form.{follows}
-use Rattle.tree.specs.Content.{Content, first}
-use Rattle.tree.specs.Steps.{StepOf, restAt, contentsAt, answers, ReadsOn, Behind, strip}
+use Rattle.tree.specs.Content.{Content, nothing, node, first}
+use Rattle.tree.specs.Steps.{StepOf, restAt, placesAt, valued, contentAt, answers, ReadsOn, Behind, strip}
 use Rattle.tree.specs.declared.tokens.Token.the-variants.{Begin, End, Property, Nop, Stop, Broken}
 use Rattle.tree.specs.declared.tokens.Step.{Step}
 use Rattle.tree.specs.declared.reader.Read.{Read}
@@ -17,6 +17,7 @@ use Rattle.tree.specs.declared.reader.Read.the-variants.{Past, Refused}
 use Rattle.lookup.specs.Steps.{nextIs}
 use Rattle.lookup.specs.declared.Next.the-variants.{Node, Last}
 use Rattle.tree.proofs.Booleans.{never}
+use Rattle.tree.proofs.Placing.{strip-valued}
 use Rattle.tree.proofs.Following.{rest-nop, rest-begin, deep-refused, late-property-refused, left-nop}
 use Rattle.tree.proofs.Following.{front-none, front-begin, front-end, front-stop, front-broken, begin-within}
 use Rattle.tree.proofs.Reading.{child-past, child-refused, past-left, past-forward, past-within}
@@ -38,7 +39,7 @@ early names l n at h e = early-tokens n h (tokens names (drop at l)) e
 
 pub record Nearing (names : ℕ) (l : List ℕ) (left at i : ℕ) : Type 0 where
   pub goes : restAt names l (16 - left) true i ≡ true
-  pub nodes : strip (first (contentsAt names l at)) ≡ first (contentsAt names l i)
+  pub nodes : strip (placesAt names l at) ≡ placesAt names l i
   pub forward : at ≤ i
   pub within : i ≤ length l
 
@@ -52,8 +53,16 @@ near-start names l left at b h e w = record {
 }
 
 module _ (names : ℕ) (l : List ℕ) (left at i : ℕ) (small : left < 16) (w : Nearing names l left at i) where
+  -- the same with the values
+  nodes-valued : (x : Content) → placesAt names l i ≡ x → strip (contentAt names l at) ≡ valued l x
+  nodes-valued x e = strip-valued l (placesAt names l at) ∙ ap (valued l) (w .nodes ∙ e)
+
+  none-left : placesAt names l i ≡ nothing → strip (contentAt names l at) ≡ nothing
+  unfolding valued
+  none-left e = nodes-valued nothing e
+
   pub near-over : length l ≤ i → nextIs names l left at Last
-  near-over h = w .nodes ∙ front-none names l i h
+  near-over h = none-left (front-none names l i h)
 
   module _ (h : i < length l) (r : Step) (s : StepOf (token names (drop i l)) l i r) where
     pub near-nop : r .token ≡ Nop → Nearing names l left at (r .next)
@@ -65,13 +74,13 @@ module _ (names : ℕ) (l : List ℕ) (left at i : ℕ) (small : left < 16) (w :
     }
 
     pub near-end : r .token ≡ End → nextIs names l left at Last
-    near-end e = w .nodes ∙ front-end names l i h r s e
+    near-end e = none-left (front-end names l i h r s e)
 
     pub near-stop : r .token ≡ Stop → nextIs names l left at Last
-    near-stop e = w .nodes ∙ front-stop names l i h r s e
+    near-stop e = none-left (front-stop names l i h r s e)
 
     pub near-broken : r .token ≡ Broken → nextIs names l left at Last
-    near-broken e = w .nodes ∙ front-broken names l i h r s e
+    near-broken e = none-left (front-broken names l i h r s e)
 
     pub near-property : (m k : ℕ) → r .token ≡ Property m k → nextIs names l left at Last
     near-property m k e = never (sym (late-property-refused names l i h r s (16 - left) m k e) ∙ w .goes)
@@ -84,13 +93,17 @@ module _ (names : ℕ) (l : List ℕ) (left at i : ℕ) (small : left < 16) (w :
       unfolding answers
       near-refused z = never (sym (child-refused names l i left i small refl (omega arith) h r s n e some child c z .is) ∙ w .goes)
 
+      node-there : (x : ℕ) → child ≡ Past x → placesAt names l i ≡ node (take n (drop (i + 4) l)) (placesAt names l (r .next)) (placesAt names l x)
+      node-there x z = rw (front-begin names l i h r s n e) (rw (past-left names l (16 - (left - 1)) false (r .next) child x c z) refl)
+
       pub near-node : (x : ℕ) → child ≡ Past x → nextIs names l left at (Node (i + 4) n (r .next) x)
+      unfolding valued
       near-node x z =
           let p : 17 - left ≡ suc (16 - left) = omega arith in
           let f = past-forward names l (16 - (left - 1)) false (r .next) child x c z in
           let inside = sym (rest-begin names l i h r s (16 - left) true (omega arith) (omega arith) n e) ∙ w .goes in
           let behind = sym (child-past names l i left i small refl (omega arith) h r s n e some child c x z) ∙ w .goes in (
-            w .nodes ∙ rw (front-begin names l i h r s n e) (rw (past-left names l (16 - (left - 1)) false (r .next) child x c z) refl),
+            nodes-valued _ (node-there x z),
             rw p inside,
             early names l (16 - left) x (omega arith) behind,
             omega arith,

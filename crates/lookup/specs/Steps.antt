@@ -2,9 +2,9 @@
 use Prim.Native.Nat.{ℕ, _+_, _-_, _≤_, _<_}
 use mathlib.Core.Path.{_≡_}
 use mathlib.Core.Bool.{true, false}
-use mathlib.Core.List.{List}
+use mathlib.Core.List.{List, [], _∷_}
 use lib.ListN.{length, drop, take}
-use Rattle.tree.specs.Content.{nothing, node, first}
+use Rattle.tree.specs.Content.{nothing, node}
 use Rattle.tree.specs.Steps.{restAt, strip, contentAt}
 use Rattle.lookup.specs.Values.{Value, absent, present}
 use Rattle.lookup.specs.declared.Found.{Found}
@@ -20,6 +20,15 @@ valueAt l Nothing = absent
 abbrev pub inside : List ℕ → Found → Type 0
 inside l (At start n) = start + n ≤ length l
 inside l Nothing = 0 ≤ length l
+
+-- a value by where it stands
+abbrev pub placeOf : Found → Value
+placeOf (At start n) = present (start ∷ n ∷ [])
+placeOf Nothing = absent
+
+pub record PlacedIn (l : List ℕ) (v : Value) (r : Found) : Type 0 where
+  pub is : v ≡ placeOf r
+  pub within : inside l r
 
 pub record FoundIn (l : List ℕ) (v : Value) (r : Found) : Type 0 where
   pub is : v ≡ valueAt l r

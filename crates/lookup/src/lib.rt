@@ -9,9 +9,9 @@ ghost use mathlib.Core.Path.{_≡_};
 ghost use mathlib.Core.Bool.{true, false};
 ghost use Prim.Native.Nat.{_-_, _<_, _≤_};
 ghost use lib.ListN.{length};
-ghost use Rattle.tree.specs.Steps.{restAt, contentAt};
+ghost use Rattle.tree.specs.Steps.{restAt, placesAt};
 ghost use Rattle.lookup.specs.Values.{same, nameAt, valueOf};
-ghost use Rattle.lookup.specs.Steps.{FoundIn, nextIs};
+ghost use Rattle.lookup.specs.Steps.{PlacedIn, nextIs};
 
 // Where a value stands: its place and its length.
 pub enum Found {
@@ -73,7 +73,7 @@ fn is_named(strings: &[u8], at: usize, name: &[u8]) -> bool
 // The first property of a name among those from `at` on.
 pub fn find_property(strings: &[u8], names: usize, s: &[u8], name: &[u8], at: usize) -> Found
     requires { ⌜ at ≤ length (now s) ⌝ }
-    ensures { λ r. ⌜ FoundIn (now (s .entry)) (valueOf (now (strings .entry)) (now (name .entry)) (contentAt names (now (s .entry)) at)) r ⌝ }
+    ensures { λ r. ⌜ PlacedIn (now (s .entry)) (valueOf (now (strings .entry)) (now (name .entry)) (placesAt names (now (s .entry)) at)) r ⌝ }
 {
     let mut i = at;
     while i < s.len() {

@@ -50,7 +50,7 @@ use Rattle.seek.proofs.BottomUp.{above, lowest-raised}
 use Rattle.search.proofs.Answering.{number-ready}
 use Rattle.fits.proofs.Ways.{walk, along}
 use Rattle.runs.proofs.Walks.{walk-first}
-use Rattle.memblock.specs.Calls.{Call, toFresh, toSet, toSetImageEnd, toCommand, toTrim, toFind, toNextFree, toAllocate, toIntake, toIntakeTree, toConvert, answerOf, answers}
+use Rattle.memblock.specs.Calls.{Call, toFresh, toSet, toSetImageEnd, toCommand, toTrim, toFind, toNextFree, toAllocate, toIntake, toIntakeTree, toIntakeTrees, toConvert, answerOf, answers}
 
 -- ---- which contents can stand in a block, computed
 
@@ -125,6 +125,7 @@ compute (toNextFree from node wish slip) s = result 0 s []
 compute (toAllocate q slip) s = takes s (q .size .0) (seek s q)
 compute (toIntake report) s = result 0 s []
 compute (toIntakeTree tree) s = result 0 s []
+compute (toIntakeTrees board service) s = result 0 s []
 compute (toConvert old) s = result 0 s []
 
 -- the call is one that this twin works out: its own numbers pass the checks
@@ -142,6 +143,7 @@ computable (toNextFree from node wish slip) = false
 computable (toAllocate q slip) = asks q slip
 computable (toIntake report) = false
 computable (toIntakeTree tree) = false
+computable (toIntakeTrees board service) = false
 computable (toConvert old) = false
 
 -- the answer that is result
@@ -294,6 +296,7 @@ call-computed (toNextFree from node wish slip) s sp e = absurd (zero-not-one cc)
 call-computed (toAllocate q slip) s sp e = allocate-computed s sp q slip e
 call-computed (toIntake report) s sp e = absurd (zero-not-one cc)
 call-computed (toIntakeTree tree) s sp e = absurd (zero-not-one cc)
+call-computed (toIntakeTrees board service) s sp e = absurd (zero-not-one cc)
 call-computed (toConvert old) s sp e = absurd (zero-not-one cc)
 
 unfoldable pub computeAll : List Call → Contents → List Result

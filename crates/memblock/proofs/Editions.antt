@@ -13,8 +13,9 @@ use Rattle.tables.specs.Commands.{commandOutcome, fresh, set, setImageEnd, trim
 use Rattle.convert.specs.Convert.{goodOne, convert}
 use Rattle.intake.specs.E820.{intakeE820}
 use Rattle.board.specs.Board.{intakeTree}
+use Rattle.board.specs.Pairs.{intakeTrees}
 use Rattle.search.specs.Answers.{Answer, asking, find, allocate, nextFree}
-use Rattle.memblock.specs.Calls.{Call, toFresh, toSet, toSetImageEnd, toCommand, toTrim, toFind, toNextFree, toAllocate, toIntake, toIntakeTree, toConvert, answerOf}
+use Rattle.memblock.specs.Calls.{Call, toFresh, toSet, toSetImageEnd, toCommand, toTrim, toFind, toNextFree, toAllocate, toIntake, toIntakeTree, toIntakeTrees, toConvert, answerOf}
 use Rattle.memblock.specs.Editions.{slipFits, EditionSentence}
 
 -- the checks of a call with a slip
@@ -22,7 +23,7 @@ asked-one : (b slip : List ℕ) (x : Answer) (n : ℕ) (g : Bool) → g ≡ fals
 asked-one b slip x n g e s = rw (e, s)
 
 other-length : (c : Call) (b : List ℕ) → (length b ≡ blockLength current → ⊥) → slipFits c ≡ true → answerOf c b .number ≡ 1
-unfolding answerOf fresh set setImageEnd commandOutcome trim find nextFree allocate intakeE820 intakeTree convert
+unfolding answerOf fresh set setImageEnd commandOutcome trim find nextFree allocate intakeE820 intakeTree intakeTrees convert
 other-length c b d s = go c s
   where
     l : eqb (length b) (blockLength current) ≡ false
@@ -42,6 +43,7 @@ other-length c b d s = go c s
     go (toAllocate q slip) s = asked-one b slip _ _ (good current b) bad s
     go (toIntake report) s = rw bad
     go (toIntakeTree tree) s = rw bad
+    go (toIntakeTrees board service) s = rw bad
     go (toConvert old) s = rw (l, and-false (goodOne old))
 
 pub edition-sentence : EditionSentence

@@ -9,6 +9,7 @@ pub mod Called
 pub mod Cases
 pub mod Freed
 pub mod FreedTwice
+pub mod Lookups
 pub mod Refusals
 pub mod InTurn
 pub mod Reports

@@ -26,13 +26,14 @@ use Rattle.intake.proofs.Whole.{checked}
 use Rattle.intake.proofs.Good.{intake-good}
 use Rattle.board.specs.Board as board
 use Rattle.board.specs.Board.{intakeTree}
-use Rattle.board.proofs.Good.{tree-good}
+use Rattle.board.specs.Pairs.{readablePair, asksPair, intakeTrees}
+use Rattle.board.proofs.Good.{tree-good, pair-good}
 use Rattle.fits.specs.declared.Query.{Query}
 use Rattle.fits.specs.declared.Place.{Place}
 use Rattle.fits.specs.declared.Place.the-variants.{Here, Nowhere}
 use Rattle.seek.specs.Search.{foundPlace, nextPlace}
 use Rattle.search.specs.Answers.{Answer, answer, refuse, unless as unlessAnswer, slipOf, withSlip, asking, askable, refusal, checkNumber, nextNumber, placeAnswer, find, allocate, allocateAnswer, reserved, nextFree}
-use Rattle.memblock.specs.Calls.{Call, toFresh, toSet, toSetImageEnd, toCommand, toTrim, toFind, toNextFree, toAllocate, toIntake, toIntakeTree, toConvert, plain, answerOf}
+use Rattle.memblock.specs.Calls.{Call, toFresh, toSet, toSetImageEnd, toCommand, toTrim, toFind, toNextFree, toAllocate, toIntake, toIntakeTree, toIntakeTrees, toConvert, plain, answerOf}
 use Rattle.memblock.specs.Refusals.{slipLent, RefusalSentence, DoneSentence}
 
 -- ---- calls without a slip
@@ -118,6 +119,14 @@ module _ (b : List ℕ) where
       record {
         keeps = intake-keeps 11 (board.readable tree) (steps current (board.asks tree));
         isGood = λ h. tree-good tree b (was-good (good current b) b _ h);
+      }
+
+  pair-fair : (board service : List ℕ) → FairOutcome b (intakeTrees current board service b)
+  unfolding intakeTrees
+  pair-fair board service =
+      record {
+        keeps = intake-keeps 11 (readablePair board service) (steps current (asksPair board service));
+        isGood = λ h. pair-good board service b (was-good (good current b) b _ h);
       }
 
   convert-fair : (old : List ℕ) → FairOutcome b (convert old b)
@@ -222,6 +231,7 @@ fair (toNextFree from node wish slip) b = next-free-fair b slip _ _ _
 fair (toAllocate q slip) b = allocate-fair b slip q
 fair (toIntake report) b = plain-fair b _ (intake-fair b report)
 fair (toIntakeTree tree) b = plain-fair b _ (tree-fair b tree)
+fair (toIntakeTrees board service) b = plain-fair b _ (pair-fair b board service)
 fair (toConvert old) b = plain-fair b _ (convert-fair b old)
 
 pub refusal-sentence : RefusalSentence

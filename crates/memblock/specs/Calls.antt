@@ -1,5 +1,5 @@
--- The table of calls: every entry point with its numbers and what else it is lent, and what it answers and leaves; the contract of each exported function
--- is the equation with its line here. Then lists of calls on one block. Assumes nothing.
+-- The table of calls: every entry point that is lent a block, with its numbers and what else it is lent, and what it answers and leaves; the contract of each
+-- of these functions is the equation with its line here. Then lists of calls on one block. Assumes nothing.
 use Prim.Native.Nat.{ℕ}
 use mathlib.Core.List.{List, [], _∷_}
 use Rattle.block.specs.Block.{current}
@@ -8,6 +8,7 @@ use Rattle.tables.specs.Commands.{fresh, set, setImageEnd, Command, commandOutc
 use Rattle.convert.specs.Convert.{convert}
 use Rattle.intake.specs.E820.{intakeE820}
 use Rattle.board.specs.Board.{intakeTree}
+use Rattle.board.specs.Pairs.{intakeTrees}
 use Rattle.fits.specs.declared.Query.{Query}
 use Rattle.search.specs.Answers.{Answer, answer, find, allocate, nextFree}
 
@@ -15,7 +16,7 @@ use Rattle.search.specs.Answers.{Answer, answer, find, allocate, nextFree}
 abbrev pub outcomeOf : Command → List ℕ → Outcome
 outcomeOf c b = commandOutcome current c b
 
--- a call of any entry point; a slip is lent anew to each call that takes one
+-- a call of any of them; a slip is lent anew to each call that takes one
 pub data Call : Type 0 where
   toFresh : Call
   toSet : (limit direction : ℕ) → Call
@@ -27,6 +28,7 @@ pub data Call : Type 0 where
   toAllocate : Query → (slip : List ℕ) → Call
   toIntake : (report : List ℕ) → Call
   toIntakeTree : (tree : List ℕ) → Call
+  toIntakeTrees : (board service : List ℕ) → Call
   toConvert : (old : List ℕ) → Call
 
 -- a call without a slip leaves none
@@ -45,6 +47,7 @@ answerOf (toNextFree from node wish slip) b = nextFree current from node wish b 
 answerOf (toAllocate q slip) b = allocate current q b slip
 answerOf (toIntake report) b = plain (intakeE820 current report b)
 answerOf (toIntakeTree tree) b = plain (intakeTree current tree b)
+answerOf (toIntakeTrees board service) b = plain (intakeTrees current board service b)
 answerOf (toConvert old) b = plain (convert old b)
 
 -- the answers of a list of calls, each on the block that the one before it left

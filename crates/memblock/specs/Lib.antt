@@ -3,7 +3,9 @@ pub mod Editions
 pub mod Freed
 pub mod FreedTwice
 pub mod Lists
+pub mod Lookups
 pub mod Refusals
 pub mod Cases
 pub mod Reports
 pub mod Trees
+pub mod Pairs

@@ -5,7 +5,7 @@ use mathlib.Core.Bool.{true}
 use mathlib.Core.List.{List, []}
 use lib.ListN.{length, replicate}
 use Rattle.block.specs.Block.{current, good}
-use Rattle.memblock.specs.Calls.{Call, toFresh, toSet, toSetImageEnd, toCommand, toTrim, toFind, toNextFree, toAllocate, toIntake, toIntakeTree, toConvert, answerOf}
+use Rattle.memblock.specs.Calls.{Call, toFresh, toSet, toSetImageEnd, toCommand, toTrim, toFind, toNextFree, toAllocate, toIntake, toIntakeTree, toIntakeTrees, toConvert, answerOf}
 
 -- the slip that is lent to a call; a call that takes none has one of no bytes
 abbrev pub slipLent : Call → List ℕ
@@ -19,6 +19,7 @@ slipLent (toNextFree from node wish slip) = slip
 slipLent (toAllocate q slip) = slip
 slipLent (toIntake report) = []
 slipLent (toIntakeTree tree) = []
+slipLent (toIntakeTrees board service) = []
 slipLent (toConvert old) = []
 
 -- the block is untouched, byte for byte, a slip of 16 bytes all zero, and one of another length as lent

@@ -1,9 +1,12 @@
 // The functions that boot code calls. Each takes numbers and lent bytes, answers document 01's number, and asks nothing of its caller. Its contract is
-// the equation with its line in the table of calls.
+// the equation with its line in the table of calls; that of lookup, which is lent no block, with its own.
 use address::Address;
 use address::Size;
 use fits::Query;
+use paths::pairs::find_pair;
+use paths::pairs::holder_number;
 use regions::Tag;
+use search::find::put_slip;
 use tables::commands::Verb;
 use tables::commands::on_range;
 ghost use mathlib.Core.Path.{_≡_};
@@ -13,7 +16,8 @@ ghost use Rattle.search.specs.Answers.{answer};
 ghost use Rattle.tables.specs.declared.commands.Verb.the-variants.{Add, Remove, Mark, Unmark, Reserve, Free};
 ghost use Rattle.range.specs.Outcomes.{tag};
 ghost use Rattle.tables.specs.Commands.{command};
-ghost use Rattle.memblock.specs.Calls.{toFresh, toSet, toSetImageEnd, toCommand, toTrim, toFind, toNextFree, toAllocate, toIntake, toIntakeTree, toConvert, answerOf};
+ghost use Rattle.memblock.specs.Calls.{toFresh, toSet, toSetImageEnd, toCommand, toTrim, toFind, toNextFree, toAllocate, toIntake, toIntakeTree, toIntakeTrees, toConvert, answerOf};
+ghost use Rattle.memblock.specs.Lookups.{lookedUp};
 
 // Writes a fresh block over any 15,440 bytes.
 #[no_mangle]
@@ -178,6 +182,34 @@ pub extern "C" fn memblock_intake_tree(block: &mut [u8], board: &[u8]) -> u32
     ensures { λ r. ⌜ answer r (now (block .exit)) [] ≡ answerOf (toIntakeTree (now (board .entry))) (now (block .entry)) ⌝ }
 {
     board::taking::intake_tree(block, board)
+}
+
+// The same with the properties that a service tree corrects.
+#[no_mangle]
+pub extern "C" fn memblock_intake_trees(block: &mut [u8], board: &[u8], service: &[u8]) -> u32
+    ensures { λ r. ⌜ answer r (now (block .exit)) [] ≡ answerOf (toIntakeTrees (now (board .entry)) (now (service .entry))) (now (block .entry)) ⌝ }
+{
+    board::taking::intake_trees(block, board, service)
+}
+
+// Looks a property up by path and name, in a service tree before a board's: says which has it, and writes its value's offset and length there.
+#[no_mangle]
+pub extern "C" fn memblock_lookup(
+    service: &[u8],
+    board: &[u8],
+    path: &[u8],
+    name: &[u8],
+    slip: &mut [u8],
+) -> u32
+    ensures { λ r. ⌜ answer r [] (now (slip .exit)) ≡ lookedUp (now (service .entry)) (now (board .entry)) (now (path .entry)) (now (name .entry)) (now (slip .entry)) ⌝ }
+{
+    if slip.len() != 16 {
+        return 8;
+    }
+    let place = find_pair(service, board, path, name);
+    put_slip(slip, place.offset as u64, place.length as u64);
+    let holder = place.holder;
+    holder_number(holder)
 }
 
 // Writes what an edition 1 block says over any 15,440 bytes. The old block stays.

@@ -27,7 +27,7 @@ fn take_found(block: &mut [u8], a: Address, size: Size, end: Address, slip: &mut
     if number != 0 {
         return number;
     }
-    put_slip(slip, a, end);
+    put_slip(slip, a.0, end.0);
     0
 }
 

@@ -58,12 +58,12 @@ fn clear_slip(slip: &mut [u8])
 }
 
 // The two numbers of an answer.
-pub fn put_slip(slip: &mut [u8], first: Address, second: Address)
+pub fn put_slip(slip: &mut [u8], first: u64, second: u64)
     requires { ⌜ length (now slip) ≡ 16 ⌝ }
-    ensures { λ _. ⌜ now (slip .exit) ≡ slipOf (first .0) (second .0) ⌝ }
+    ensures { λ _. ⌜ now (slip .exit) ≡ slipOf first second ⌝ }
 {
-    put_u64(slip, 0, first.0);
-    put_u64(slip, 8, second.0);
+    put_u64(slip, 0, first);
+    put_u64(slip, 8, second);
 }
 
 // The slip and the checks, before a search: 8 for a slip of another length; else the slip is cleared, and the number is that of the checks.
@@ -86,7 +86,7 @@ fn tell(place: Place, slip: &mut [u8]) -> u32
         return 5;
     };
     let end = run.end;
-    put_slip(slip, a, end);
+    put_slip(slip, a.0, end.0);
     0
 }
 

@@ -5,13 +5,14 @@ use mathlib.Core.Bool.{Bool, true, false, _&&_}
 use mathlib.Core.List.{List, [], _∷_}
 use native.Mathlib.Omega.{arith}
 use lib.Dec.{ltb, eqb}
-use lib.ListN.{length, drop, take, length-drop, drop-of-length-le}
+use lib.ListN.{length, drop, take, length-drop, length-take, drop-of-length-le}
 use lib.Seq.{drop-drop}
-use borrow.Author.Tests.{lt-ltb, le-ltb, ne-eqb}
+use borrow.Author.Tests.{lt-ltb, le-ltb, ne-eqb, eqb-true, eqb-false}
 use Rattle.tree.specs.Tokens.{Token, begin, end, property, nop, stop, broken, token, size, tokensUpTo, tokens}
 use Rattle.tree.specs.Form.{follows}
 use Rattle.tree.specs.Content as c
 use Rattle.tree.specs.Content.{Content, contents, first, inRoot}
+use Rattle.tree.specs.Places.{placed, located}
 use Rattle.tree.specs.Steps.{shape, StepOf, restAt, contentsAt, strip}
 use Rattle.tree.specs.declared.tokens.Token.the-variants.{Begin, End, Property, Nop, Stop, Broken}
 use Rattle.tree.specs.declared.tokens.Step.{Step}
@@ -100,7 +101,7 @@ unfolding restAt follows
 rest-none names l n late at h = rw (tokens-none names l at h)
 
 pub front-none : (names : ℕ) (l : List ℕ) (at : ℕ) → length l ≤ at → first (contentsAt names l at) ≡ c.nothing
-unfolding contentsAt contents
+unfolding contentsAt contents located
 front-none names l at h = rw (tokens-none names l at h) refl
 
 -- ---- at a token
@@ -127,11 +128,52 @@ module _ (names : ℕ) (l : List ℕ) (at : ℕ) (h : at < length l) (r : Step) 
   at-begin : (k : ℕ) → r .token ≡ Begin k → tokens names (drop at l) ≡ begin (take k (drop (at + 4) l)) ∷ tokens names (drop (r .next) l)
   at-begin k e = rw (← drop-drop 4 at l) (tokens-at (begin (take k (drop 4 (drop at l)))) (begin-is names (drop at l) k (sym e ∙ s .is) .is))
 
+  -- ---- and each value by where it stands
+
+  places-next : (x : Token) → token names (drop at l) ≡ x
+      → located (at + size x) (tokens names (drop (r .next) l)) ≡ located (r .next) (tokens names (drop (r .next) l))
+  unfolding located
+  places-next x e = go (eqb (r .next) (at + size x)) refl
+    where
+      go : (b : Bool) → eqb (r .next) (at + size x) ≡ b → located (at + size x) (tokens names (drop (r .next) l)) ≡ located (r .next) (tokens names (drop (r .next) l))
+      go true q = rw (eqb-true (r .next) (at + size x) q) refl
+      go false q =
+          let d : length l - r .next ≡ length l - at - size x =
+          sym (length-drop (r .next) l) ∙ ap (λ (y : List ℕ). length y) (s .rest) ∙ rw e (length-drop (size x) (drop at l) ∙ rw (length-drop at l) refl) in
+          rw (tokens-none names l (r .next) (omega (arith, d, s .within, eqb-false (r .next) (at + size x) q))) refl
+
+  places-at : (x : Token) → token names (drop at l) ≡ x
+      → located at (tokens names (drop at l)) ≡ placed at x ∷ located (r .next) (tokens names (drop (r .next) l))
+  unfolding located
+  places-at x e = ap (λ (ts : List Token). located at ts) (tokens-at x e) ∙ ap (λ (ts : List Token). placed at x ∷ ts) (places-next x e)
+
+  places-end : r .token ≡ End → located at (tokens names (drop at l)) ≡ end ∷ located (r .next) (tokens names (drop (r .next) l))
+  places-end e = places-at end (end-is (token names (drop at l)) (sym e ∙ s .is))
+
+  places-nop : r .token ≡ Nop → located at (tokens names (drop at l)) ≡ nop ∷ located (r .next) (tokens names (drop (r .next) l))
+  places-nop e = places-at nop (nop-is (token names (drop at l)) (sym e ∙ s .is))
+
+  places-stop : r .token ≡ Stop → located at (tokens names (drop at l)) ≡ stop ∷ located (r .next) (tokens names (drop (r .next) l))
+  places-stop e = places-at stop (stop-is (token names (drop at l)) (sym e ∙ s .is))
+
+  places-broken : r .token ≡ Broken → located at (tokens names (drop at l)) ≡ broken ∷ located (r .next) (tokens names (drop (r .next) l))
+  places-broken e = places-at broken (broken-is (token names (drop at l)) (sym e ∙ s .is))
+
   pub property-within : (m k : ℕ) → r .token ≡ Property m k → at + 12 + k ≤ length l
   property-within m k e = omega (arith, property-is names (drop at l) m k (sym e ∙ s .is) .within, length-drop at l)
 
   pub begin-within : (k : ℕ) → r .token ≡ Begin k → at + 4 + k ≤ length l
   begin-within k e = omega (arith, begin-is names (drop at l) k (sym e ∙ s .is) .within, length-drop at l)
+
+  places-property : (m k : ℕ) → r .token ≡ Property m k
+      → located at (tokens names (drop at l)) ≡ property m ((at + 12) ∷ k ∷ []) ∷ located (r .next) (tokens names (drop (r .next) l))
+  places-property m k e =
+      let n : length (take k (drop 12 (drop at l))) ≡ k = simp (length-take, length-drop) (omega (arith, property-within m k e)) in
+      rw (← n) (places-at (property m (take k (drop 12 (drop at l)))) (property-is names (drop at l) m k (sym e ∙ s .is) .is))
+
+  places-begin : (k : ℕ) → r .token ≡ Begin k
+      → located at (tokens names (drop at l)) ≡ begin (take k (drop (at + 4) l)) ∷ located (r .next) (tokens names (drop (r .next) l))
+  places-begin k e = rw (← drop-drop 4 at l) (places-at (begin (take k (drop 4 (drop at l)))) (begin-is names (drop at l) k (sym e ∙ s .is) .is))
 
   -- ---- what may follow, with n nodes open
 
@@ -204,18 +246,18 @@ module _ (names : ℕ) (l : List ℕ) (at : ℕ) (h : at < length l) (r : Step) 
 
   pub left-nop : r .token ≡ Nop → contentsAt names l at ≡ contentsAt names l (r .next)
   unfolding contentsAt contents
-  left-nop e = rw (at-nop e) refl
+  left-nop e = rw (places-nop e) refl
 
   pub left-end : r .token ≡ End → drop 1 (contentsAt names l at) ≡ contentsAt names l (r .next)
   unfolding contentsAt contents
-  left-end e = rw (at-end e) refl
+  left-end e = rw (places-end e) refl
 
   pub front-begin : (k : ℕ) → r .token ≡ Begin k
       → contentsAt names l at
       ≡ c.node (take k (drop (at + 4) l)) (first (contentsAt names l (r .next))) (first (drop 1 (contentsAt names l (r .next))))
       ∷ drop 2 (contentsAt names l (r .next))
   unfolding contentsAt contents
-  front-begin k e = rw (at-begin k e) refl
+  front-begin k e = rw (places-begin k e) refl
 
   pub left-begin : (k : ℕ) → r .token ≡ Begin k → drop 1 (contentsAt names l at) ≡ drop 1 (drop 1 (contentsAt names l (r .next)))
   left-begin k e = rw (front-begin k e) (sym (drop-drop 1 1 (contentsAt names l (r .next))))
@@ -229,9 +271,9 @@ module _ (names : ℕ) (l : List ℕ) (at : ℕ) (h : at < length l) (r : Step) 
 
   pub front-property : (m k : ℕ) → r .token ≡ Property m k
       → contentsAt names l at
-      ≡ c.property m (take k (drop (at + 12) l)) (first (contentsAt names l (r .next))) ∷ drop 1 (contentsAt names l (r .next))
+      ≡ c.property m ((at + 12) ∷ k ∷ []) (first (contentsAt names l (r .next))) ∷ drop 1 (contentsAt names l (r .next))
   unfolding contentsAt contents
-  front-property m k e = rw (at-property m k e) refl
+  front-property m k e = rw (places-property m k e) refl
 
   pub left-property : (m k : ℕ) → r .token ≡ Property m k → drop 1 (contentsAt names l at) ≡ drop 1 (contentsAt names l (r .next))
   left-property m k e = rw (front-property m k e) refl
@@ -242,15 +284,15 @@ module _ (names : ℕ) (l : List ℕ) (at : ℕ) (h : at < length l) (r : Step) 
 
   pub front-end : r .token ≡ End → first (contentsAt names l at) ≡ c.nothing
   unfolding contentsAt contents
-  front-end e = rw (at-end e) refl
+  front-end e = rw (places-end e) refl
 
   pub front-stop : r .token ≡ Stop → first (contentsAt names l at) ≡ c.nothing
   unfolding contentsAt contents
-  front-stop e = rw (at-stop e) refl
+  front-stop e = rw (places-stop e) refl
 
   pub front-broken : r .token ≡ Broken → first (contentsAt names l at) ≡ c.nothing
   unfolding contentsAt contents
-  front-broken e = rw (at-broken e) refl
+  front-broken e = rw (places-broken e) refl
 
 -- where nothing is left, no node is
 pub strip-nothing : (x : Content) → x ≡ c.nothing → strip x ≡ x

@@ -183,3 +183,18 @@ module _ (tree : List ℕ) (a : Bool) (p : a ≡ header tree) where
 
 pub parts-true : (tree : List ℕ) (b : Bool) → b ≡ parts tree → b ≡ true → parts tree ≡ true
 parts-true tree b q t = sym q ∙ t
+
+-- a tree that has the form
+module _ (tree : List ℕ) (f : form tree ≡ true) where
+  form-parted : (header tree ≡ true) × (parts tree && formed (strings tree) (structure tree) ≡ true)
+  unfolding form
+  form-parted = both (header tree) (parts tree && formed (strings tree) (structure tree)) f
+
+  pub formed-header : 40 ≤ length tree
+  formed-header = header-whole tree true (sym (form-parted .0)) refl
+
+  pub formed-parts : parts tree ≡ true
+  formed-parts = both (parts tree) (formed (strings tree) (structure tree)) (form-parted .1) .0
+
+  pub formed-block : formed (strings tree) (structure tree) ≡ true
+  formed-block = both (parts tree) (formed (strings tree) (structure tree)) (form-parted .1) .1

@@ -4,6 +4,7 @@ pub mod Names
 pub mod TokenCases
 pub mod Stepping
 pub mod Following
+pub mod Placing
 pub mod Reading
 pub mod Heading
 pub mod Trees

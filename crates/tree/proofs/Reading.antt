@@ -1,7 +1,7 @@
 -- The walks over a structure block: what may follow where the walk began is what may follow where it stands. Assumes nothing.
 use Prim.Native.Nat.{ℕ, suc, _-_, _≤_, _<_}
 use mathlib.Core.Path.{_≡_, refl, sym, ap, _∙_}
-use mathlib.Core.Bool.{Bool, true, false}
+use mathlib.Core.Bool.{Bool, true, false, false≢true}
 use mathlib.Core.List.{List}
 use native.Mathlib.Omega.{arith}
 use lib.Dec.{eqb}
@@ -10,7 +10,7 @@ use borrow.Author.Tests.{ne-eqb, eqb-true, eqb-false}
 use Rattle.tree.specs.Tokens.{Token, token, tokens}
 use Rattle.tree.specs.Form.{named, formed}
 use Rattle.tree.specs.Content.{Content, first, inRoot}
-use Rattle.tree.specs.Steps.{StepOf, restAt, contentsAt, strip, answers, ReadsOn, Behind, RootPast, RootIs}
+use Rattle.tree.specs.Steps.{StepOf, restAt, contentsAt, strip, answers, ReadsOn, Behind, RootPast, RootIs, RootOf}
 use Rattle.tree.specs.declared.tokens.Token.the-variants.{Begin, End, Property, Nop, Stop, Broken}
 use Rattle.tree.specs.declared.tokens.Step.{Step}
 use Rattle.tree.specs.declared.reader.Read.{Read}
@@ -246,6 +246,9 @@ module _ (strings : List ℕ) (names : ℕ) (e : names ≡ named strings) (l : L
   unfolding formed restAt
   whole = rw e refl
 
+  pub root-there : formed strings l ≡ true → root ≡ Refused → ⊥
+  root-there f z = false≢true (sym (rw z at p) ∙ sym whole ∙ f)
+
   pub no-root : root ≡ Refused → false ≡ formed strings l
   no-root z = sym (whole ∙ rw z at p)
 
@@ -255,6 +258,9 @@ module _ (strings : List ℕ) (names : ℕ) (e : names ≡ named strings) (l : L
 
     pub root-within : at ≤ length l
     root-within = past .within
+
+    pub root-is : formed strings l ≡ true → RootOf strings l (record { names = names; at = at })
+    root-is f = record { names = e; is = past; goes = sym (past .is) ∙ sym whole ∙ f }
 
     module _ (node : Read) (q : ReadsOn names l 1 false at node) where
       pub root-refused : node ≡ Refused → false ≡ formed strings l

@@ -2,6 +2,7 @@ pub mod Words
 pub mod Tokens
 pub mod Form
 pub mod Content
+pub mod Places
 pub mod Trees
 pub mod WhichTrees
 pub mod Header

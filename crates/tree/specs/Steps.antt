@@ -3,16 +3,18 @@
 use Prim.Native.Nat.{ℕ, _+_, _-_, _≤_, _<_}
 use mathlib.Core.Path.{_≡_}
 use mathlib.Core.Bool.{Bool, true, false}
-use mathlib.Core.List.{List}
-use lib.ListN.{length, drop}
+use mathlib.Core.List.{List, [], _∷_}
+use lib.ListN.{length, drop, take}
 use Rattle.tree.specs.Tokens as t
-use Rattle.tree.specs.Form.{follows}
+use Rattle.tree.specs.Form.{follows, named}
 use Rattle.tree.specs.Content.{Content, nothing, property, node, contents, first, inRoot}
+use Rattle.tree.specs.Places.{located}
 use Rattle.tree.specs.declared.tokens.Token.{Token}
 use Rattle.tree.specs.declared.tokens.Token.the-variants.{Begin, End, Property, Nop, Stop, Broken}
 use Rattle.tree.specs.declared.tokens.Step.{Step}
 use Rattle.tree.specs.declared.reader.Read.{Read}
 use Rattle.tree.specs.declared.reader.Read.the-variants.{Past, Refused}
+use Rattle.tree.specs.declared.reader.Root.{Root}
 
 -- a token by its numbers alone
 abbrev pub shape : t.Token → Token
@@ -39,13 +41,40 @@ unfoldable pub answers : ℕ → List ℕ → ℕ → Read → Bool
 answers names l n (Past e) = restAt names l n true e
 answers names l n Refused = false
 
--- what is left of each open node from `at` on
+-- what is left of each open node from `at` on, each value by where it stands
 unfoldable pub contentsAt : ℕ → List ℕ → ℕ → List Content
-contentsAt names l at = contents (t.tokens names (drop at l))
+contentsAt names l at = contents (located at (t.tokens names (drop at l)))
 
 -- what is left of the innermost one
+abbrev pub placesAt : ℕ → List ℕ → ℕ → Content
+placesAt names l at = first (contentsAt names l at)
+
+-- the bytes by where they stand
+abbrev pub bytesAt : List ℕ → List ℕ → List ℕ
+bytesAt l [] = []
+bytesAt l (at ∷ []) = []
+bytesAt l (at ∷ (n ∷ rest)) = take n (drop at l)
+
+unfoldable pub valued : List ℕ → Content → Content
+valued l nothing = nothing
+valued l (property at place c) = property at (bytesAt l place) (valued l c)
+valued l (node name inner c) = node name (valued l inner) (valued l c)
+
+-- two numbers that say where bytes of l stand
+pub record Spot (l place : List ℕ) : Type 0 where
+  pub at : ℕ
+  pub n : ℕ
+  pub is : place ≡ at ∷ n ∷ []
+  pub within : at + n ≤ length l
+
+abbrev pub Inside : List ℕ → Content → Type 0
+Inside l nothing = 0 ≤ length l
+Inside l (property at place c) = Spot l place × Inside l c
+Inside l (node name inner c) = Inside l inner × Inside l c
+
+-- the same with the values
 abbrev pub contentAt : ℕ → List ℕ → ℕ → Content
-contentAt names l at = first (contentsAt names l at)
+contentAt names l at = valued l (placesAt names l at)
 
 -- where the node ends, and that nothing of it is left there
 abbrev pub ends : ℕ → List ℕ → ℕ → Read → Type 0
@@ -66,7 +95,7 @@ strip (node n inner c) = node n inner c
 pub record Behind (names : ℕ) (l : List ℕ) (at r : ℕ) : Type 0 where
   pub is : (n : ℕ) → 0 < n → restAt names l n false at ≡ restAt names l n true r
   pub left : drop 1 (contentsAt names l at) ≡ drop 1 (contentsAt names l r)
-  pub nodes : strip (contentAt names l at) ≡ contentAt names l r
+  pub nodes : strip (placesAt names l at) ≡ placesAt names l r
   pub forward : at ≤ r
   pub within : r ≤ length l
 
@@ -79,9 +108,15 @@ pub record Padded (len at n r : ℕ) : Type 0 where
 -- past the root's name: what may follow there, and what stands in the root
 pub record RootPast (names : ℕ) (l : List ℕ) (at : ℕ) : Type 0 where
   pub is : restAt names l 0 false 0 ≡ restAt names l 1 false at
-  pub says : inRoot (contentAt names l 0) ≡ contentAt names l at
+  pub says : inRoot (placesAt names l 0) ≡ placesAt names l at
   pub within : at ≤ length l
 
 abbrev pub RootIs : ℕ → List ℕ → Read → Type 0
 RootIs names l (Past at) = RootPast names l at
 RootIs names l Refused = restAt names l 0 false 0 ≡ false
+
+-- the root of a block that is a tree's
+pub record RootOf (strings l : List ℕ) (r : Root) : Type 0 where
+  pub names : r .names ≡ named strings
+  pub is : RootPast (r .names) l (r .at)
+  pub goes : restAt (r .names) l 1 false (r .at) ≡ true

@@ -4,7 +4,7 @@ use super::words::double_at;
 use super::words::word_at;
 ghost use mathlib.Core.Path.{_≡_};
 ghost use mathlib.Core.Bool.{true, _&&_};
-ghost use Prim.Native.Nat.{_+_, _/_, _≤_};
+ghost use Prim.Native.Nat.{_+_, _/_, _≤_, _<_};
 ghost use lib.Dec.{leb, eqb};
 ghost use lib.ListN.{length, drop};
 ghost use Rattle.tree.specs.Words.{word};
@@ -114,7 +114,7 @@ fn parts_ok(tree: &[u8]) -> bool
 // The structure block.
 pub fn structure<'a>(tree: &'a [u8]) -> &'a [u8]
     requires { ⌜ (40 ≤ length (now tree)) × (parts (now tree) ≡ true) ⌝ }
-    ensures { λ r. ⌜ now r ≡ structureOf (now (tree .entry)) ⌝ }
+    ensures { λ r. ⌜ (now r ≡ structureOf (now (tree .entry))) × (length (now r) < 4294967296) ⌝ }
 {
     let at = word_at(tree, 8) as usize;
     let end = at + word_at(tree, 36) as usize;

@@ -6,7 +6,7 @@ ghost use mathlib.Core.Bool.{true, false};
 ghost use Prim.Native.Nat.{_-_, _<_, _≤_};
 ghost use lib.ListN.{length};
 ghost use Rattle.tree.specs.Form.{formed, named};
-ghost use Rattle.tree.specs.Steps.{restAt, ReadsOn, Behind, RootIs};
+ghost use Rattle.tree.specs.Steps.{restAt, ReadsOn, Behind, RootIs, RootOf};
 
 // The place past what was read.
 pub enum Read {
@@ -133,7 +133,7 @@ fn read_stop(names: usize, s: &[u8], at: usize) -> bool
 }
 
 // The place behind the root's name.
-pub fn root_at(names: usize, s: &[u8]) -> Read
+fn root_at(names: usize, s: &[u8]) -> Read
     ensures { λ r. ⌜ RootIs names (now (s .entry)) r ⌝ }
 {
     let mut i = 0;
@@ -166,7 +166,7 @@ pub fn root_at(names: usize, s: &[u8]) -> Read
 }
 
 // How many places of a strings block begin a name that ends inside it: those up to its last zero byte.
-pub fn names_in(strings: &[u8]) -> usize
+fn names_in(strings: &[u8]) -> usize
     ensures { λ r. ⌜ r ≡ named (now (strings .entry)) ⌝ }
 {
     let mut i = strings.len();
@@ -177,6 +177,26 @@ pub fn names_in(strings: &[u8]) -> usize
         i -= 1;
     }
     0
+}
+
+// The root of a tree: how many places of the strings block begin a name that ends inside it, and where what stands in the root begins.
+pub struct Root {
+    pub names: usize,
+    pub at: usize,
+}
+
+// The root of a structure block that is a tree's.
+pub fn root_of(strings: &[u8], s: &[u8]) -> Root
+    requires { ⌜ formed (now strings) (now s) ≡ true ⌝ }
+    ensures { λ r. ⌜ RootOf (now (strings .entry)) (now (s .entry)) r ⌝ }
+{
+    let names = names_in(strings);
+    let root = root_at(names, s);
+    // There is one.
+    let Read::Past(at) = root else {
+        return Root { names, at: 0 };
+    };
+    Root { names, at }
 }
 
 // Whether a structure block is a tree's.

@@ -2,18 +2,18 @@
 use Prim.Native.Nat.{ℕ, _+_, _-_, _≤_, _<_}
 use mathlib.Core.Path.{_≡_, refl, sym, ap, _∙_}
 use mathlib.Core.Bool.{Bool, true, false, cond, _&&_}
-use mathlib.Core.List.{List}
+use mathlib.Core.List.{List, [], _∷_, _++_}
 use native.Mathlib.Omega.{arith}
 use lib.ListN.{length, take, drop}
 use Rattle.tree.specs.Content.{Content, nothing, property, node}
 use Rattle.tree.specs.Steps.{restAt, contentAt, strip}
 use Rattle.tree.proofs.Booleans.{both}
-use Rattle.lookup.specs.Values.{same, valueOf}
+use Rattle.lookup.specs.Values.{same}
 use Rattle.lookup.specs.Steps.{nextIs}
 use Rattle.lookup.specs.declared.Next.{Next}
 use Rattle.lookup.specs.declared.Next.the-variants.{Node, Last}
 use Rattle.values.specs.Names.{reg, reservedMemory}
-use Rattle.values.specs.Values.{wholeEntries}
+use Rattle.values.specs.Values.{Get, wholeEntries}
 use Rattle.values.specs.Steps.{memoryOk, reservedOk, childOk, childrenOk}
 
 -- ---- where the next node stands
@@ -107,72 +107,83 @@ module _ (all : Content → Bool) (one : List ℕ → Content → Bool) (w : Tes
 
 -- ---- the nodes in a /reserved-memory
 
-module _ (strings : List ℕ) (width : ℕ) where
-  reserved-tested : Tested (reservedOk strings width) (λ name c. wholeEntries width (valueOf strings reg c))
-  unfolding reservedOk
-  reserved-tested = record { on-nothing = refl; on-property = λ at value c. refl; on-node = λ name inner c. refl }
+module _ (get : Get) (width : ℕ) where
+  module _ (way : List (List ℕ)) where
+    reserved-tested : Tested (reservedOk get width way) (λ name c. wholeEntries width (get (record { way = way ++ (name ∷ []); content = c }) reg))
+    unfolding reservedOk
+    reserved-tested = record { on-nothing = refl; on-property = λ at value c. refl; on-node = λ name inner c. refl }
 
-  module _ (names : ℕ) (l : List ℕ) (at i : ℕ) (r : Next) (k : nextIs names l 14 i r)
-      (inv : reservedOk strings width (contentAt names l at) ≡ reservedOk strings width (contentAt names l i)) where
-    pub reserved-last : r ≡ Last → true ≡ reservedOk strings width (contentAt names l at)
-    reserved-last = test-last _ _ reserved-tested names l 14 i r k _ inv
+  -- by their names
+  module _ (names : ℕ) (l : List ℕ) (name k at i : ℕ) (r : Next) (x : nextIs names l 14 i r)
+      (inv : reservedOk get width (take k (drop name l) ∷ []) (contentAt names l at) ≡ reservedOk get width (take k (drop name l) ∷ []) (contentAt names l i)) where
+    pub reserved-last : r ≡ Last → true ≡ reservedOk get width (take k (drop name l) ∷ []) (contentAt names l at)
+    reserved-last = test-last _ _ (reserved-tested (take k (drop name l) ∷ [])) names l 14 i r x _ inv
 
-    module _ (a n inner after : ℕ) (e : r ≡ Node a n inner after) (t : Bool) (p : t ≡ wholeEntries width (valueOf strings reg (contentAt names l inner))) where
-      pub reserved-bad : t ≡ false → false ≡ reservedOk strings width (contentAt names l at)
-      reserved-bad = test-bad _ _ reserved-tested names l 14 i r k _ inv a n inner after e t p
+    module _ (b m inner after : ℕ) (e : r ≡ Node b m inner after) (t : Bool)
+        (p : t ≡ wholeEntries width (get (record { way = take k (drop name l) ∷ take m (drop b l) ∷ []; content = contentAt names l inner }) reg)) where
+      pub reserved-bad : t ≡ false → false ≡ reservedOk get width (take k (drop name l) ∷ []) (contentAt names l at)
+      reserved-bad = test-bad _ _ (reserved-tested (take k (drop name l) ∷ [])) names l 14 i r x _ inv b m inner after e t p
 
-      pub reserved-on : t ≡ true → reservedOk strings width (contentAt names l at) ≡ reservedOk strings width (contentAt names l after)
-      reserved-on = test-on _ _ reserved-tested names l 14 i r k _ inv a n inner after e t p
+      pub reserved-on : t ≡ true
+          → reservedOk get width (take k (drop name l) ∷ []) (contentAt names l at) ≡ reservedOk get width (take k (drop name l) ∷ []) (contentAt names l after)
+      reserved-on = test-on _ _ (reserved-tested (take k (drop name l) ∷ [])) names l 14 i r x _ inv b m inner after e t p
 
   -- ---- a child of the root
 
-  module _ (name : List ℕ) (c : Content) (t : Bool) (p : t ≡ memoryOk strings width c) where
-    pub child-bad : t ≡ false → false ≡ childOk strings width name c
+  module _ (name : List ℕ) (c : Content) (t : Bool) (p : t ≡ memoryOk get width (record { way = name ∷ []; content = c })) where
+    pub child-bad : t ≡ false → false ≡ childOk get width name c
     unfolding childOk
     child-bad e = rw (← p, e) refl
 
     module _ (e : t ≡ true) (u : Bool) (q : u ≡ same name reservedMemory) where
-      pub child-other : u ≡ false → true ≡ childOk strings width name c
+      other : u ≡ false → true ≡ childOk get width name c
       unfolding childOk
-      child-other f = rw (← p, e, ← q, f) refl
+      other f = rw (← p, e, ← q, f) refl
 
-      pub child-reserved : u ≡ true → (v : Bool) → v ≡ reservedOk strings width c → v ≡ childOk strings width name c
+      reserved : u ≡ true → (v : Bool) → v ≡ reservedOk get width (name ∷ []) c → v ≡ childOk get width name c
       unfolding childOk
-      child-reserved f v z = rw (← p, e, ← q, f) z
+      reserved f v z = rw (← p, e, ← q, f) z
+
+  -- whose name has k bytes at `name`
+  module _ (l : List ℕ) (name k : ℕ) (c : Content) (t : Bool) (p : t ≡ memoryOk get width (record { way = take k (drop name l) ∷ []; content = c })) (e : t ≡ true)
+      (u : Bool) (q : u ≡ same (take (name + k - name) (drop name l)) reservedMemory) where
+    same-name : u ≡ same (take k (drop name l)) reservedMemory
+    same-name = let w : name + k - name ≡ k = omega arith in q ∙ rw w refl
+
+    pub child-other : u ≡ false → true ≡ childOk get width (take k (drop name l)) c
+    child-other = other (take k (drop name l)) c t p e u same-name
+
+    pub child-reserved : u ≡ true → (v : Bool) → v ≡ reservedOk get width (take k (drop name l) ∷ []) c → v ≡ childOk get width (take k (drop name l)) c
+    child-reserved = reserved (take k (drop name l)) c t p e u same-name
 
   -- a child whose values hold, if it is memory
-  pub child-memory : (name : List ℕ) (c : Content) → childOk strings width name c ≡ true → memoryOk strings width c ≡ true
+  pub child-memory : (name : List ℕ) (c : Content) → childOk get width name c ≡ true → memoryOk get width (record { way = name ∷ []; content = c }) ≡ true
   unfolding childOk
-  child-memory name c h = both (memoryOk strings width c) (cond (same name reservedMemory) (reservedOk strings width c) true) h .0
+  child-memory name c h =
+      both (memoryOk get width (record { way = name ∷ []; content = c })) (cond (same name reservedMemory) (reservedOk get width (name ∷ []) c) true) h .0
 
   -- ---- the children of the root
 
-  children-tested : Tested (childrenOk strings width) (childOk strings width)
+  children-tested : Tested (childrenOk get width) (childOk get width)
   unfolding childrenOk
   children-tested = record { on-nothing = refl; on-property = λ at value c. refl; on-node = λ name inner c. refl }
 
   module _ (names : ℕ) (l : List ℕ) (at i : ℕ) (r : Next) (k : nextIs names l 15 i r)
-      (inv : childrenOk strings width (contentAt names l at) ≡ childrenOk strings width (contentAt names l i)) where
-    pub children-last : r ≡ Last → true ≡ childrenOk strings width (contentAt names l at)
+      (inv : childrenOk get width (contentAt names l at) ≡ childrenOk get width (contentAt names l i)) where
+    pub children-last : r ≡ Last → true ≡ childrenOk get width (contentAt names l at)
     children-last = test-last _ _ children-tested names l 15 i r k _ inv
 
-    module _ (a n inner after : ℕ) (e : r ≡ Node a n inner after) (t : Bool)
-        (p : t ≡ childOk strings width (take (a + n - a) (drop a l)) (contentAt names l inner)) where
-      same-name : t ≡ childOk strings width (take n (drop a l)) (contentAt names l inner)
-      same-name = let w : a + n - a ≡ n = omega arith in p ∙ rw w refl
+    module _ (a n inner after : ℕ) (e : r ≡ Node a n inner after) (t : Bool) (p : t ≡ childOk get width (take n (drop a l)) (contentAt names l inner)) where
+      pub children-bad : t ≡ false → false ≡ childrenOk get width (contentAt names l at)
+      children-bad = test-bad _ _ children-tested names l 15 i r k _ inv a n inner after e t p
 
-      pub children-bad : t ≡ false → false ≡ childrenOk strings width (contentAt names l at)
-      children-bad = test-bad _ _ children-tested names l 15 i r k _ inv a n inner after e t same-name
+      pub children-on : t ≡ true → childrenOk get width (contentAt names l at) ≡ childrenOk get width (contentAt names l after)
+      children-on = test-on _ _ children-tested names l 15 i r k _ inv a n inner after e t p
 
-      pub children-on : t ≡ true → childrenOk strings width (contentAt names l at) ≡ childrenOk strings width (contentAt names l after)
-      children-on = test-on _ _ children-tested names l 15 i r k _ inv a n inner after e t same-name
-
-  module _ (names : ℕ) (l : List ℕ) (i : ℕ) (r : Next) (k : nextIs names l 15 i r) (inv : childrenOk strings width (contentAt names l i) ≡ true)
+  module _ (names : ℕ) (l : List ℕ) (i : ℕ) (r : Next) (k : nextIs names l 15 i r) (inv : childrenOk get width (contentAt names l i) ≡ true)
       (a n inner after : ℕ) (e : r ≡ Node a n inner after) where
-    pub child-holds : childOk strings width (take (a + n - a) (drop a l)) (contentAt names l inner) ≡ true
-    child-holds =
-        let w : a + n - a ≡ n = omega arith in
-        rw w (test-holds _ _ children-tested names l 15 i r k _ refl a n inner after e inv .0)
+    pub child-holds : childOk get width (take n (drop a l)) (contentAt names l inner) ≡ true
+    child-holds = test-holds _ _ children-tested names l 15 i r k _ refl a n inner after e inv .0
 
-    pub rest-holds : childrenOk strings width (contentAt names l after) ≡ true
+    pub rest-holds : childrenOk get width (contentAt names l after) ≡ true
     rest-holds = test-holds _ _ children-tested names l 15 i r k _ refl a n inner after e inv .1

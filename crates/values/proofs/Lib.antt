@@ -1,3 +1,4 @@
 pub mod Properties
+pub mod Corrections
 pub mod Children
 pub mod OneByOne

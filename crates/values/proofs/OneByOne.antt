@@ -4,9 +4,9 @@ use mathlib.Core.Path.{_≡_, refl, ap, _∙_}
 use mathlib.Core.Bool.{Bool, true, false, cond, _&&_}
 use mathlib.Core.List.{List, [], _∷_, _++_, append-nil}
 use Rattle.tree.specs.Content.{Content, nothing, property, node}
-use Rattle.lookup.specs.Values.{same, path, steps, Node, childrenIn, children, valueOf}
+use Rattle.lookup.specs.Values.{same, path, steps, Node, childrenIn, children}
 use Rattle.values.specs.Names.{deviceType, memory, reg, numaNodeId, reservedMemory}
-use Rattle.values.specs.Values.{own, is, numberFrom, wholeEntries, every, those, joined, aCells, sCells, rootCells, values}
+use Rattle.values.specs.Values.{Get, is, numberFrom, wholeEntries, every, those, joined, aCells, sCells, rootCells, values}
 use Rattle.values.specs.Steps.{memoryOk, reservedOk, childOk, childrenOk}
 
 -- ---- lists of nodes
@@ -31,9 +31,9 @@ pub by-name : (name : List ℕ) → same (path (name ∷ [])) (47 ∷ reservedMe
 unfolding path steps same
 by-name name = rw (append-nil name) refl
 
-module _ (strings : List ℕ) where
+module _ (get : Get) where
   abbrev isMemory : Node → Bool
-  isMemory n = is memory (own strings n deviceType)
+  isMemory n = is memory (get n deviceType)
 
   abbrev isReserved : Node → Bool
   isReserved n = same (path (n .way)) (47 ∷ reservedMemory)
@@ -42,16 +42,16 @@ module _ (strings : List ℕ) where
 
   module _ (w : ℕ) where
     abbrev wholeReg : Node → Bool
-    wholeReg n = wholeEntries w (own strings n reg)
+    wholeReg n = wholeEntries w (get n reg)
 
     abbrev nodeId : Node → Bool
-    nodeId n = numberFrom 0 63 (own strings n numaNodeId)
+    nodeId n = numberFrom 0 63 (get n numaNodeId)
 
-    reserved-values : (way : List (List ℕ)) (c : Content) → every wholeReg (childrenIn way c) ≡ reservedOk strings w c
+    reserved-values : (way : List (List ℕ)) (c : Content) → every wholeReg (childrenIn way c) ≡ reservedOk get w way c
     unfolding every childrenIn reservedOk
     reserved-values way nothing = refl
     reserved-values way (property at value c) = reserved-values way c
-    reserved-values way (node name inner c) = ap (λ (t : Bool). wholeEntries w (valueOf strings reg inner) && t) (reserved-values way c)
+    reserved-values way (node name inner c) = ap (λ (t : Bool). wholeReg (record { way = way ++ (name ∷ []); content = inner }) && t) (reserved-values way c)
 
     -- one child's values apart from the others'
     apart : (m q : Bool) (x y z a b c : Bool)
@@ -81,14 +81,14 @@ module _ (strings : List ℕ) where
     abbrev asked : List Node → List Node → Bool
     asked ms rs = every wholeReg ms && (every nodeId ms && every wholeReg rs)
 
-    reserved-if : (q : Bool) (way : List (List ℕ)) (c : Content) → every wholeReg (cond q (childrenIn way c) []) ≡ cond q (reservedOk strings w c) true
+    reserved-if : (q : Bool) (way : List (List ℕ)) (c : Content) → every wholeReg (cond q (childrenIn way c) []) ≡ cond q (reservedOk get w way c) true
     unfolding every
     reserved-if true way c = reserved-values way c
     reserved-if false way c = refl
 
     -- a child, and the others
     child-values : (name : List ℕ) (inner : Content) (n : Node) → n ≡ record { way = name ∷ []; content = inner } → (ms rs : List Node)
-        → asked (cond (isMemory n) (n ∷ ms) ms) (joined children (cond (isReserved n) (n ∷ rs) rs)) ≡ childOk strings w name inner && asked ms (joined children rs)
+        → asked (cond (isMemory n) (n ∷ ms) ms) (joined children (cond (isReserved n) (n ∷ rs) rs)) ≡ childOk get w name inner && asked ms (joined children rs)
     unfolding childOk memoryOk
     child-values name inner n e ms rs =
         rw (
@@ -98,17 +98,17 @@ module _ (strings : List ℕ) where
           every-both wholeReg (cond (isReserved n) (children n) []) (joined children rs),
           reserved-if (isReserved n) (n .way) (n .content),
         )
-        (apart (isMemory n) (isReserved n) (wholeReg n) (nodeId n) (reservedOk strings w (n .content)) (every wholeReg ms) (every nodeId ms) (every wholeReg (joined children rs))
+        (apart (isMemory n) (isReserved n) (wholeReg n) (nodeId n) (reservedOk get w (n .way) (n .content)) (every wholeReg ms) (every nodeId ms) (every wholeReg (joined children rs))
         ∙ rw (e, by-name name) refl)
 
-    children-values : (c : Content) → asked (those isMemory (childrenIn [] c)) (joined children (those isReserved (childrenIn [] c))) ≡ childrenOk strings w c
+    children-values : (c : Content) → asked (those isMemory (childrenIn [] c)) (joined children (those isReserved (childrenIn [] c))) ≡ childrenOk get w c
     unfolding every those joined childrenIn childrenOk
     children-values nothing = refl
     children-values (property at value c) = children-values c
     children-values (node name inner c) =
         child-values name inner (record { way = name ∷ []; content = inner }) refl (those isMemory (childrenIn [] c)) (those isReserved (childrenIn [] c))
-        ∙ ap (λ (t : Bool). childOk strings w name inner && t) (children-values c)
+        ∙ ap (λ (t : Bool). childOk get w name inner && t) (children-values c)
 
-  pub values-are : (top : Content) → values (own strings) top ≡ rootCells (own strings) top && childrenOk strings (4 * (aCells (own strings) top + sCells (own strings) top)) top
+  pub values-are : (top : Content) → values get top ≡ rootCells get top && childrenOk get (4 * (aCells get top + sCells get top)) top
   unfolding values
-  values-are top = ap (λ (t : Bool). rootCells (own strings) top && t) (children-values (4 * (aCells (own strings) top + sCells (own strings) top)) top)
+  values-are top = ap (λ (t : Bool). rootCells get top && t) (children-values (4 * (aCells get top + sCells get top)) top)

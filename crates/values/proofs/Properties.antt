@@ -8,16 +8,14 @@ use lib.Dec.{leb, eqb, leb·zero}
 use lib.ListN.{length, drop, take, length-take, length-drop}
 use borrow.Author.Tests.{eq-eqb, ne-eqb, le-leb, lt-leb}
 use Rattle.tree.specs.Words.{big, word}
-use Rattle.tree.specs.Content.{Content}
-use Rattle.lookup.specs.Values.{same, Value, absent, present, valueOf}
-use Rattle.lookup.specs.Steps.{FoundIn}
-use Rattle.lookup.specs.declared.Found.{Found}
-use Rattle.lookup.specs.declared.Found.the-variants.{At, Nothing}
+use Rattle.lookup.specs.Values.{same, Node, Value, absent, present}
+use Rattle.values.specs.declared.Got.{Got}
+use Rattle.values.specs.declared.Got.the-variants.{At, Nothing}
 use Rattle.values.specs.declared.Number.{Number}
 use Rattle.values.specs.declared.Number.the-variants.{Is, Other}
 use Rattle.values.specs.Names.{deviceType, memory, reg, numaNodeId}
-use Rattle.values.specs.Values.{is, has, numberOr, numberFrom, wholeEntries}
-use Rattle.values.specs.Steps.{told, cellsOf, memoryOk}
+use Rattle.values.specs.Values.{Get, is, has, numberOr, numberFrom, wholeEntries}
+use Rattle.values.specs.Steps.{holds, GotIn, told, cellsOf, memoryOk}
 
 -- the bytes past the first k do not matter
 big-take : (v k : ℕ) (l : List ℕ) → big v k (take k l) ≡ big v k l
@@ -26,50 +24,84 @@ big-take v zero l = refl
 big-take v (suc k) [] = refl
 big-take v (suc k) (b ∷ l) = big-take (256 * v + b) k l
 
-module _ (l : List ℕ) (v : Value) (r : Found) (g : FoundIn l v r) where
-  found-none : r ≡ Nothing → v ≡ absent
-  found-none e = g .is ∙ rw e refl
-
-  pub found-at : (a n : ℕ) → r ≡ At a n → v ≡ present (take n (drop a l))
-  found-at a n e = g .is ∙ rw e refl
-
-  pub found-within : (a n : ℕ) → r ≡ At a n → a + n ≤ length l
-  found-within a n e = rw e at (g .within)
-
-  pub found-length : (a n : ℕ) → r ≡ At a n → length (take n (drop a l)) ≡ n
-  found-length a n e = let w = found-within a n e in simp (length-take, length-drop) (omega arith)
+module _ (service l : List ℕ) (v : Value) (r : Got) (g : GotIn service l v r) where
+  pub got-none : r ≡ Nothing → v ≡ absent
+  got-none e = g .is ∙ rw e refl
 
   pub has-none : r ≡ Nothing → false ≡ has v
-  has-none e = rw (found-none e) refl
-
-  pub has-at : (a n : ℕ) → r ≡ At a n → true ≡ has v
-  has-at a n e = rw (found-at a n e) refl
+  has-none e = rw (got-none e) refl
 
   pub just-none : (bytes : List ℕ) → r ≡ Nothing → false ≡ is bytes v
-  just-none bytes e = rw (found-none e) refl
-
-  pub just-at : (bytes : List ℕ) (a n : ℕ) → r ≡ At a n → (t : Bool) → t ≡ same (take (a + n - a) (drop a l)) bytes → t ≡ is bytes v
-  just-at bytes a n e t q =
-      let w : a + n - a ≡ n = omega arith in
-      rw (found-at a n e, ← w) q
+  just-none bytes e = rw (got-none e) refl
 
   pub whole-none : (w : ℕ) → r ≡ Nothing → true ≡ wholeEntries w v
-  whole-none w e = rw (found-none e) refl
-
-  pub whole-at : (w a n : ℕ) → r ≡ At a n → eqb (n % w) 0 ≡ wholeEntries w v
-  whole-at w a n e = rw (found-at a n e, found-length a n e) refl
+  whole-none w e = rw (got-none e) refl
 
   pub told-none : (d : ℕ) → r ≡ Nothing → Is d ≡ told d v
-  told-none d e = rw (found-none e) refl
+  told-none d e = rw (got-none e) refl
 
-  pub told-other : (d a n : ℕ) → r ≡ At a n → (n ≡ 4 → ⊥) → Other ≡ told d v
-  told-other d a n e h = rw (found-at a n e, found-length a n e, ne-eqb n 4 h) refl
+  module _ (corrected : Bool) (a n : ℕ) (e : r ≡ At corrected a n) where
+    pub got-at : v ≡ present (take n (drop a (holds service l corrected)))
+    got-at = g .is ∙ rw e refl
 
-  pub found-four : (a n : ℕ) → r ≡ At a n → n ≡ 4 → a + 4 ≤ length l
-  found-four a n e h = omega (arith, found-within a n e)
+    pub got-within : a + n ≤ length (holds service l corrected)
+    got-within = rw e at (g .within)
 
-  pub told-at : (d a n : ℕ) → r ≡ At a n → n ≡ 4 → (w : ℕ) → w ≡ word (drop a l) → Is w ≡ told d v
-  told-at d a n e h w q = rw (found-at a n e, found-length a n e, eq-eqb n 4 h, h, big-take 0 4 (drop a l), ← q) refl
+    got-length : length (take n (drop a (holds service l corrected))) ≡ n
+    got-length = simp (length-take, length-drop) (omega (arith, got-within))
+
+    pub has-at : true ≡ has v
+    has-at = rw got-at refl
+
+    pub whole-at : (w : ℕ) → eqb (n % w) 0 ≡ wholeEntries w v
+    whole-at w = rw (got-at, got-length) refl
+
+    pub told-other : (d : ℕ) → (n ≡ 4 → ⊥) → Other ≡ told d v
+    told-other d h = rw (got-at, got-length, ne-eqb n 4 h) refl
+
+    -- ---- in the service tree, and among the node's own
+
+    module _ (x : List ℕ) (q : holds service l corrected ≡ x) where
+      within : a + n ≤ length x
+      within = rw q at got-within
+
+      just : (bytes : List ℕ) (t : Bool) → t ≡ same (take (a + n - a) (drop a x)) bytes → t ≡ is bytes v
+      just bytes t k = let w : a + n - a ≡ n = omega arith in rw (got-at, q, ← w) k
+
+      word-told : (d : ℕ) → n ≡ 4 → (w : ℕ) → w ≡ word (drop a x) → Is w ≡ told d v
+      word-told d h w k = rw (got-at, got-length, eq-eqb n 4 h, h, q, big-take 0 4 (drop a x), ← k) refl
+
+    module _ (c : corrected ≡ true) where
+      service-is : holds service l corrected ≡ service
+      service-is = rw c refl
+
+      pub service-within : a + n ≤ length service
+      service-within = within service service-is
+
+      pub service-four : n ≡ 4 → a + 4 ≤ length service
+      service-four h = omega (arith, service-within)
+
+      pub just-service : (bytes : List ℕ) (t : Bool) → t ≡ same (take (a + n - a) (drop a service)) bytes → t ≡ is bytes v
+      just-service = just service service-is
+
+      pub told-service : (d : ℕ) → n ≡ 4 → (w : ℕ) → w ≡ word (drop a service) → Is w ≡ told d v
+      told-service = word-told service service-is
+
+    module _ (c : corrected ≡ false) where
+      own-is : holds service l corrected ≡ l
+      own-is = rw c refl
+
+      pub own-within : a + n ≤ length l
+      own-within = within l own-is
+
+      pub own-four : n ≡ 4 → a + 4 ≤ length l
+      own-four h = omega (arith, own-within)
+
+      pub just-own : (bytes : List ℕ) (t : Bool) → t ≡ same (take (a + n - a) (drop a l)) bytes → t ≡ is bytes v
+      just-own = just l own-is
+
+      pub told-own : (d : ℕ) → n ≡ 4 → (w : ℕ) → w ≡ word (drop a l) → Is w ≡ told d v
+      told-own = word-told l own-is
 
 -- ---- numbers
 
@@ -121,22 +153,22 @@ module _ (d : ℕ) (v : Value) (r : Number) (p : r ≡ told d v) where
 
 -- ---- a child of the root that may be memory
 
-module _ (strings : List ℕ) (w : ℕ) (c : Content) (t : Bool) (p : t ≡ is memory (valueOf strings deviceType c)) where
-  pub memory-not : t ≡ false → true ≡ memoryOk strings w c
+module _ (get : Get) (w : ℕ) (n : Node) (t : Bool) (p : t ≡ is memory (get n deviceType)) where
+  pub memory-not : t ≡ false → true ≡ memoryOk get w n
   unfolding memoryOk
   memory-not e = rw (← p, e) refl
 
-  module _ (e : t ≡ true) (u : Bool) (q : u ≡ wholeEntries w (valueOf strings reg c)) where
-    pub memory-ragged : u ≡ false → false ≡ memoryOk strings w c
+  module _ (e : t ≡ true) (u : Bool) (q : u ≡ wholeEntries w (get n reg)) where
+    pub memory-ragged : u ≡ false → false ≡ memoryOk get w n
     unfolding memoryOk
     memory-ragged f = rw (← p, e, ← q, f) refl
 
-    module _ (f : u ≡ true) (r : Number) (k : r ≡ told 0 (valueOf strings numaNodeId c)) where
-      pub memory-no-id : r ≡ Other → false ≡ memoryOk strings w c
+    module _ (f : u ≡ true) (r : Number) (k : r ≡ told 0 (get n numaNodeId)) where
+      pub memory-no-id : r ≡ Other → false ≡ memoryOk get w n
       unfolding memoryOk
-      memory-no-id z = rw (← p, e, ← q, f, other-from 0 63 0 (valueOf strings numaNodeId c) (sym z ∙ k)) refl
+      memory-no-id z = rw (← p, e, ← q, f, other-from 0 63 0 (get n numaNodeId) (sym z ∙ k)) refl
 
-      pub memory-id : (n : ℕ) → r ≡ Is n → leb n 63 ≡ memoryOk strings w c
+      pub memory-id : (x : ℕ) → r ≡ Is x → leb x 63 ≡ memoryOk get w n
       unfolding memoryOk
-      memory-id n z =
-          rw (← p, e, ← q, f, told-from 0 63 0 n (valueOf strings numaNodeId c) (omega arith) (omega arith) (sym z ∙ k), leb·zero n) refl
+      memory-id x z =
+          rw (← p, e, ← q, f, told-from 0 63 0 x (get n numaNodeId) (omega arith) (omega arith) (sym z ∙ k), leb·zero x) refl

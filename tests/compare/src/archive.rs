@@ -50,6 +50,13 @@ functions! {
         block: *mut u8, len: usize, report: *const u8, report_len: usize);
     has_memblock_intake_tree => memblock_intake_tree(
         block: *mut u8, len: usize, board: *const u8, board_len: usize);
+    has_memblock_intake_trees => memblock_intake_trees(
+        block: *mut u8, len: usize, board: *const u8, board_len: usize,
+        service: *const u8, service_len: usize);
+    has_memblock_lookup => memblock_lookup(
+        service: *const u8, service_len: usize, board: *const u8, board_len: usize,
+        path: *const u8, path_len: usize, name: *const u8, name_len: usize,
+        slip: *mut u8, slip_len: usize);
     has_memblock_convert => memblock_convert(
         old: *const u8, old_len: usize, block: *mut u8, len: usize);
 }

@@ -21,13 +21,15 @@ pub enum Command {
     Allocate,
     Intake,
     IntakeTree,
+    IntakeTrees,
+    Lookup,
     Convert,
 }
 
 use Command::*;
 
 impl Command {
-    pub const ALL: [Command; 16] = [
+    pub const ALL: [Command; 18] = [
         Fresh,
         Set,
         SetImageEnd,
@@ -43,6 +45,8 @@ impl Command {
         Allocate,
         Intake,
         IntakeTree,
+        IntakeTrees,
+        Lookup,
         Convert,
     ];
 
@@ -66,11 +70,13 @@ impl Command {
             Allocate => "memblock_allocate",
             Intake => "memblock_intake_e820",
             IntakeTree => "memblock_intake_tree",
+            IntakeTrees => "memblock_intake_trees",
+            Lookup => "memblock_lookup",
             Convert => "memblock_convert",
         }
     }
 
-    /// The numbers that document 01 and requests E1, E4, E6 to E8 and E10 allow.
+    /// The numbers that document 01 and requests E1, E4 and E6 to E10 allow.
     pub fn allowed(self) -> &'static [u32] {
         match self {
             Fresh | SetImageEnd | Convert => &[0, 1],
@@ -83,12 +89,17 @@ impl Command {
             Find => &[0, 8, 1, 2, 3, 4, 5],
             Allocate => &[0, 8, 1, 2, 3, 4, 5, 6],
             Intake => &[0, 1, 10, 6],
-            IntakeTree => &[0, 1, 11, 6],
+            IntakeTree | IntakeTrees => &[0, 1, 11, 6],
+            Lookup => &[0, 1, 2, 8, 11],
         }
     }
 
-    pub fn takes_slip(self) -> bool {
+    pub fn searches(self) -> bool {
         matches!(self, NextFree | Find | Allocate)
+    }
+
+    pub fn takes_slip(self) -> bool {
+        self.searches() || self == Lookup
     }
 
     pub fn on_taken(self) -> bool {
@@ -143,6 +154,19 @@ pub enum Call {
     Intake(Arc<[u8]>),
     /// With the tree's bytes.
     IntakeTree(Arc<[u8]>),
+    /// With the bytes of both. Where they are one and the same, one buffer is lent twice;
+    /// so for a lookup.
+    IntakeTrees {
+        board: Arc<[u8]>,
+        service: Arc<[u8]>,
+    },
+    /// Takes no block.
+    Lookup {
+        service: Arc<[u8]>,
+        board: Arc<[u8]>,
+        path: Arc<[u8]>,
+        name: Arc<[u8]>,
+    },
     /// With the old block's bytes.
     Convert(Arc<[u8]>),
 }
@@ -161,17 +185,44 @@ impl Call {
             Call::Allocate(_) => Allocate,
             Call::Intake(_) => Intake,
             Call::IntakeTree(_) => IntakeTree,
+            Call::IntakeTrees { .. } => IntakeTrees,
+            Call::Lookup { .. } => Lookup,
             Call::Convert(_) => Convert,
         }
     }
 
-    /// The bytes that the call only reads, a report, a tree or an old block; none for
-    /// other commands.
-    pub fn source(&self) -> &[u8] {
+    /// What the call only reads, with its names.
+    pub fn sources(&self) -> Vec<(&'static str, &Arc<[u8]>)> {
         match self {
-            Call::Intake(source) | Call::IntakeTree(source) | Call::Convert(source) => source,
-            _ => &[],
+            Call::Intake(report) => vec![("report", report)],
+            Call::IntakeTree(board) => vec![("board's tree", board)],
+            Call::IntakeTrees { board, service } => {
+                vec![("board's tree", board), ("service tree", service)]
+            }
+            Call::Lookup {
+                service,
+                board,
+                path,
+                name,
+            } => vec![
+                ("service tree", service),
+                ("board's tree", board),
+                ("path", path),
+                ("name", name),
+            ],
+            Call::Convert(old) => vec![("old block", old)],
+            _ => vec![],
         }
+    }
+
+    /// Which source's buffer is lent for each.
+    pub fn lent(&self) -> Vec<usize> {
+        let sources = self.sources();
+        let first = |i: usize| {
+            let same = |other: &(_, &Arc<[u8]>)| Arc::ptr_eq(other.1, sources[i].1);
+            sources.iter().position(same).expect("itself at least")
+        };
+        (0..sources.len()).map(first).collect()
     }
 
     /// The call as text, numbers in hexadecimal.
@@ -212,13 +263,33 @@ impl Call {
             ],
             Call::Intake(ref report) => vec![("report_length", report.len() as u64)],
             Call::IntakeTree(ref board) => vec![("board_length", board.len() as u64)],
+            Call::IntakeTrees {
+                ref board,
+                ref service,
+            } => vec![
+                ("board_length", board.len() as u64),
+                ("service_length", service.len() as u64),
+            ],
+            Call::Lookup {
+                ref service,
+                ref board,
+                ..
+            } => vec![
+                ("service_length", service.len() as u64),
+                ("board_length", board.len() as u64),
+            ],
             Call::Convert(ref old) => vec![("old_length", old.len() as u64)],
         };
-        let numbers: Vec<String> = numbers
+        let mut words: Vec<String> = numbers
             .iter()
             .map(|(what, x)| format!("{what} {x:#x}"))
             .collect();
-        format!("{name}({})", numbers.join(", "))
+        if let Call::Lookup { path, name, .. } = self {
+            for (what, bytes) in [("path", path), ("name", name)] {
+                words.push(format!("{what} \"{}\"", bytes.escape_ascii()));
+            }
+        }
+        format!("{name}({})", words.join(", "))
     }
 
     pub fn on_model(&self, block: &mut [u8], slip: &mut [u8]) -> u32 {
@@ -258,16 +329,35 @@ impl Call {
             Call::Allocate(query) => model::allocate(block, &query, slip),
             Call::Intake(ref report) => model::intake_e820(block, report),
             Call::IntakeTree(ref board) => model::intake_tree(block, board),
+            Call::IntakeTrees {
+                ref board,
+                ref service,
+            } => model::intake_trees(block, board, service),
+            Call::Lookup {
+                ref service,
+                ref board,
+                ref path,
+                ref name,
+            } => model::lookup(service, board, path, name, slip),
             Call::Convert(ref old) => model::convert(old, block),
         }
     }
 
-    /// The same call on the archive; `source` is lent in the place of its own.
-    pub fn on_archive(&self, block: &mut [u8], slip: &mut [u8], source: &mut [u8]) -> u32 {
+    /// The same call on the archive; `sources` are lent in the place of its own.
+    ///
+    /// # Safety
+    /// Each source is a pointer to so many bytes, of which block and slip have none.
+    pub unsafe fn on_archive(
+        &self,
+        block: &mut [u8],
+        slip: &mut [u8],
+        sources: &[(*const u8, usize)],
+    ) -> u32 {
         let (b, len) = (block.as_mut_ptr(), block.len());
         let (s, slip_len) = (slip.as_mut_ptr(), slip.len());
-        let (from, from_len) = (source.as_mut_ptr(), source.len());
-        // The pointers and lengths name the three buffers above, which share no byte.
+        let lent = |i: usize| sources.get(i).copied().unwrap_or((b, 0));
+        let ((from, from_len), (other, other_len)) = (lent(0), lent(1));
+        // The pointers and lengths name the buffers above.
         unsafe {
             match *self {
                 Call::Fresh => archive::memblock_fresh(b, len),
@@ -329,6 +419,16 @@ impl Call {
                 ),
                 Call::Intake(_) => archive::memblock_intake_e820(b, len, from, from_len),
                 Call::IntakeTree(_) => archive::memblock_intake_tree(b, len, from, from_len),
+                Call::IntakeTrees { .. } => {
+                    archive::memblock_intake_trees(b, len, from, from_len, other, other_len)
+                }
+                Call::Lookup { .. } => {
+                    let ((path, path_len), (name, name_len)) = (lent(2), lent(3));
+                    archive::memblock_lookup(
+                        from, from_len, other, other_len, path, path_len, name, name_len, s,
+                        slip_len,
+                    )
+                }
                 Call::Convert(_) => archive::memblock_convert(from, from_len, b, len),
             }
         }

@@ -1,13 +1,15 @@
-//! The twelve cases of document 01 and those of requests E1, E3 to E8 and E10, run
-//! through the archive.
+//! The twelve cases of document 01 and those of requests E1 and E3 to E10, run through
+//! the archive.
 
 use crate::blocks::{get_u64, read_recs};
 use crate::call::{Call, Command};
 use crate::desk::Desk;
+use crate::pairs;
 use crate::reports::{self, Entry};
 use crate::rng::Rng;
 use model::layout::*;
 use model::Query;
+use std::sync::Arc;
 use trees::node::{reg, word};
 use trees::random::chain;
 use trees::{stored, Break, Node, Sketch, Tree};
@@ -115,6 +117,21 @@ impl Case<'_> {
         }
     }
 
+    /// A board's tree with the corrections of a service tree.
+    fn intake_trees(&mut self, board: &Tree, service: &Tree, number: u32) {
+        let bytes = |tree: &Tree| Sketch::of(tree).bytes();
+        self.intake_trees_bytes(&bytes(board), &bytes(service), number);
+    }
+
+    fn intake_trees_bytes(&mut self, board: &[u8], service: &[u8], number: u32) {
+        let before = self.block.clone();
+        let (board, service) = (board.into(), service.into());
+        self.does(Call::IntakeTrees { board, service }, number);
+        if number != 0 {
+            self.expect("block", self.block.clone(), before);
+        }
+    }
+
     fn convert(&mut self, old: &[u8], number: u32) {
         self.does(Call::Convert(old.into()), number);
     }
@@ -214,7 +231,7 @@ fn query(size: u64, alignment: u64) -> Query {
 }
 
 pub fn run(desk: &mut Desk) -> u32 {
-    let cases: [fn(&mut Desk); 68] = [
+    let cases: [fn(&mut Desk); 79] = [
         printed,
         one,
         two_and_three,
@@ -283,6 +300,17 @@ pub fn run(desk: &mut Desk) -> u32 {
         tree_full,
         tree_numbers,
         tree_at_the_edges,
+        pair_corrected,
+        pair_values,
+        pair_cells,
+        pair_paths,
+        pair_adds_nothing,
+        pair_stored,
+        pair_broken,
+        pair_numbers,
+        lookup_paths,
+        lookup_stored,
+        lookup_refused,
     ];
     for (turn, case) in cases.iter().enumerate() {
         desk.turn = turn as u64;
@@ -1926,4 +1954,560 @@ fn tree_at_the_edges(desk: &mut Desk) {
     c.intake_tree(&tree, 0);
     c.table(&MEMORY, &[(0, 1, 0, 0), (top - 4, 4, NO_MAP, 0)]);
     c.table(&TAKEN, &[(0, top, 0, 0)]);
+}
+
+/// A tree whose root holds nodes of these names, one in the other, the last with a property.
+fn correction(names: &[&str], name: &str, value: impl AsRef<[u8]>) -> Tree {
+    let mut root = Node::new("");
+    let mut node = &mut root;
+    for name in names {
+        node.children.push(Node::new(name));
+        node = &mut node.children[0];
+    }
+    *node = node.clone().with(name, value);
+    Tree {
+        list: Vec::new(),
+        root,
+    }
+}
+
+/// Memory, another node with ranges, one that is reserved and one that is marked.
+fn board() -> Tree {
+    let ram = Node::new("ram").with("reg", reg((2, 2), &[(0x8000, 0x100)]));
+    let mut reserved = reserved_node(&[(0x1100, 0x10)]);
+    reserved
+        .children
+        .extend(no_map_node(&[(0x1200, 0x10)]).children);
+    reserved.children[1].name = b"marked".to_vec();
+    tree(&[memory_node(&[(0x1000, 0x1000)]), ram, reserved])
+}
+
+/// Each property that the intake asks for, corrected, an empty value too.
+fn pair_corrected(desk: &mut Desk) {
+    let range = |base, size| reg((2, 2), &[(base, size)]);
+    let (reserved, marked) = (["reserved-memory", "buffer"], ["reserved-memory", "marked"]);
+    type Records<'a> = &'a [(u64, u64, u32, u32)];
+    type Corrected<'a> = (&'a [&'a str], &'a str, Vec<u8>, [Records<'a>; 2]);
+    let as_it_was: [Records; 2] = [
+        &[
+            (0x1000, 0x200, 0, 0),
+            (0x1200, 0x10, NO_MAP, 0),
+            (0x1210, 0xdf0, 0, 0),
+        ],
+        &[(0x1100, 0x10, 0, 0)],
+    ];
+    let cases: [Corrected; 10] = [
+        (
+            &["memory"],
+            "reg",
+            [range(0x2000, 0x80), range(0, 1)].concat(),
+            [&[(0, 1, 0, 0), (0x2000, 0x80, 0, 0)], as_it_was[1]],
+        ),
+        (&["memory"], "reg", Vec::new(), [&[], as_it_was[1]]),
+        (&["memory"], "device_type", Vec::new(), [&[], as_it_was[1]]),
+        (
+            &["memory"],
+            "numa-node-id",
+            word(63),
+            [
+                &[
+                    (0x1000, 0x200, 0, 63),
+                    (0x1200, 0x10, NO_MAP, 63),
+                    (0x1210, 0xdf0, 0, 63),
+                ],
+                as_it_was[1],
+            ],
+        ),
+        (
+            &["ram"],
+            "device_type",
+            b"memory\0".to_vec(),
+            [
+                &[
+                    (0x1000, 0x200, 0, 0),
+                    (0x1200, 0x10, NO_MAP, 0),
+                    (0x1210, 0xdf0, 0, 0),
+                    (0x8000, 0x100, 0, 0),
+                ],
+                as_it_was[1],
+            ],
+        ),
+        (
+            &reserved,
+            "reg",
+            range(0x1f00, 0x20),
+            [as_it_was[0], &[(0x1f00, 0x20, 0, 0)]],
+        ),
+        (&reserved, "reg", Vec::new(), [as_it_was[0], &[]]),
+        (
+            &reserved,
+            "no-map",
+            Vec::new(),
+            [
+                &[
+                    (0x1000, 0x100, 0, 0),
+                    (0x1100, 0x10, NO_MAP, 0),
+                    (0x1110, 0xf0, 0, 0),
+                    (0x1200, 0x10, NO_MAP, 0),
+                    (0x1210, 0xdf0, 0, 0),
+                ],
+                &[],
+            ],
+        ),
+        (
+            &marked,
+            "reg",
+            range(0x1ff0, 0x20),
+            [
+                &[(0x1000, 0xff0, 0, 0), (0x1ff0, 0x10, NO_MAP, 0)],
+                as_it_was[1],
+            ],
+        ),
+        (&[], "#address-cells", word(2), as_it_was),
+    ];
+    for (names, name, value, [memory, taken]) in cases {
+        let service = correction(names, name, value);
+        // By nodes on the way, and by one name with a slash.
+        let mut slashed = service.clone();
+        if names.len() == 2 {
+            slashed.root.children[0] = service.root.children[0].children[0].clone();
+            slashed.root.children[0].name = names.join("/").into();
+        }
+        for service in [service, slashed] {
+            let mut c = Case::new(desk);
+            c.intake_trees(&board(), &service, 0);
+            c.table(&MEMORY, memory);
+            c.table(&TAKEN, taken);
+        }
+    }
+}
+
+/// 11 comes by a correction, and goes by one.
+fn pair_values(desk: &mut Desk) {
+    let bare = Tree::default();
+    let range = reg((2, 2), &[(1, 2)]);
+    let memory = |value: &[u8]| tree(&[Node::memory("memory", value)]);
+    let reserved = |value: &[u8], no_map: bool| {
+        let mut node = reserved_node(&[]);
+        node.children[0] = Node::new("buffer").with("reg", value);
+        if no_map {
+            node.children[0] = node.children[0].clone().with("no-map", []);
+        }
+        tree(&[node])
+    };
+    let buffer = ["reserved-memory", "buffer"];
+    let mut c = Case::new(desk);
+    for (board, names) in [
+        (&memory as &dyn Fn(&[u8]) -> Tree, &["memory"][..]),
+        (&|value: &[u8]| reserved(value, false), &buffer),
+        (&|value: &[u8]| reserved(value, true), &buffer),
+    ] {
+        c.intake_trees(&board(&range), &bare, 0);
+        c.intake_trees(&board(&range), &correction(names, "reg", &range[1..]), 11);
+        c.intake_trees(&board(&range[1..]), &bare, 11);
+        c.intake_trees(&board(&range[1..]), &correction(names, "reg", &range), 0);
+        c.intake_trees(&board(&range[1..]), &correction(names, "reg", []), 0);
+        c.intake_trees(&board(&range[1..]), &correction(names, "regs", []), 11);
+    }
+    let ids = [&word(64)[..], b"", b"\0\0\0", b"\0\0\0\0\0"];
+    for id in ids {
+        let service = correction(&["memory"], "numa-node-id", id);
+        c.intake_trees(&memory(&range), &service, 11);
+        let bad = memory_node(&[(1, 2)]).with("numa-node-id", id);
+        let bad_board = tree(std::slice::from_ref(&bad));
+        c.intake_trees(&bad_board, &bare, 11);
+        let service = correction(&["memory"], "numa-node-id", word(7));
+        c.intake_trees(&bad_board, &service, 0);
+        // What is no memory any more is not asked; what becomes it is.
+        let service = correction(&["memory"], "device_type", "cpu\0");
+        c.intake_trees(&bad_board, &service, 0);
+        let mut other = bad;
+        other.properties.retain(|p| p.0 != b"device_type");
+        c.intake_trees(&tree(&[other.clone()]), &bare, 0);
+        let service = correction(&["memory"], "device_type", "memory\0");
+        c.intake_trees(&tree(&[other]), &service, 11);
+    }
+}
+
+/// The root's cells.
+fn pair_cells(desk: &mut Desk) {
+    let name = ["#address-cells", "#size-cells"];
+    for name in name {
+        for value in [
+            &b""[..],
+            b"\0\0\0\0",
+            b"\0\0\0\x03",
+            b"\0\0\x02",
+            b"\0\0\0\x02\0",
+        ] {
+            let mut c = Case::new(desk);
+            c.intake_trees(&board(), &correction(&[], name, value), 11);
+            let mut wrong = board();
+            wrong.root.properties.retain(|p| p.0 != name.as_bytes());
+            wrong.root.properties.push((name.into(), value.to_vec()));
+            c.intake_trees(&wrong, &Tree::default(), 11);
+            c.intake_trees(&wrong, &correction(&["memory"], name, word(2)), 11);
+            c.intake_trees(&wrong, &correction(&[], name, word(2)), 0);
+            c.count(&MEMORY, 3);
+        }
+    }
+    // Other cells make other ranges of the same words, or none.
+    let mut c = Case::new(desk);
+    c.intake_trees(&board(), &correction(&[], "#size-cells", word(1)), 11);
+    c.intake_trees(&board(), &correction(&[""], "#size-cells", word(1)), 11);
+    let mut ones = correction(&[], "#size-cells", word(1));
+    ones.root = ones.root.with("#address-cells", word(1));
+    c.intake_trees(&board(), &ones, 0);
+    c.table(&MEMORY, &[(0, 0x1000, NO_MAP, 0)]);
+    c.table(&TAKEN, &[(0, 0x1100, 0, 0)]);
+}
+
+/// Which node's path it is, and which match is the first.
+fn pair_paths(desk: &mut Desk) {
+    let range = |base| reg((2, 2), &[(base, 1)]);
+    let m = |base| Node::memory("m", range(base));
+    let only = |base| Node::new("m").with("reg", range(base));
+    let of = |children: &[Node]| Tree {
+        list: Vec::new(),
+        root: children
+            .iter()
+            .fold(Node::new(""), |root, child| root.holding(child.clone())),
+    };
+    let added = |desk: &mut Desk, board: &Tree, service: &Tree, bases: &[u64]| {
+        let mut c = Case::new(desk);
+        c.intake_trees(board, service, 0);
+        let records: Vec<_> = bases.iter().map(|&base| (base, 1, 0, 0)).collect();
+        c.table(&MEMORY, &records);
+    };
+    // Two board nodes of one path; two properties, two nodes, the second of two nodes.
+    let twins = tree(&[m(1), m(3)]);
+    added(desk, &twins, &Tree::default(), &[1, 3]);
+    added(desk, &twins, &of(&[only(7)]), &[7]);
+    added(desk, &twins, &of(&[only(7).with("reg", range(9))]), &[7]);
+    added(desk, &twins, &of(&[only(7), only(9)]), &[7]);
+    added(desk, &twins, &of(&[Node::new("m"), only(7)]), &[7]);
+    // A nameless child has the root's path, and its properties come after the root's.
+    let nameless = tree(&[Node::memory("", range(1))]);
+    let in_root = correction(&[], "reg", range(7));
+    let in_nameless = correction(&[""], "reg", range(9));
+    added(desk, &nameless, &in_root, &[7]);
+    added(desk, &nameless, &in_nameless, &[9]);
+    let mut both = in_nameless.clone();
+    both.root = both.root.with("reg", range(7));
+    added(desk, &nameless, &both, &[7]);
+    // A name with a slash in the board's tree, and which of two ways comes first.
+    let slashed = tree(&[Node::memory("a/m", range(1))]);
+    let way = Node::new("a").holding(only(7));
+    let mut at_once = only(9);
+    at_once.name = b"a/m".to_vec();
+    added(desk, &slashed, &of(std::slice::from_ref(&way)), &[7]);
+    added(desk, &slashed, &of(&[at_once.clone()]), &[9]);
+    added(desk, &slashed, &of(&[way.clone(), at_once.clone()]), &[7]);
+    added(desk, &slashed, &of(&[at_once, way]), &[9]);
+    // Nearly the path, a name that goes on, the root's name.
+    let one = tree(&[m(1)]);
+    for names in [
+        &["m", ""][..],
+        &["", "m"],
+        &["/m"],
+        &["mm"],
+        &["m@0"],
+        &["m", "m"],
+        &["a", "m"],
+        &[""],
+        &[],
+    ] {
+        added(desk, &one, &correction(names, "reg", range(7)), &[1]);
+    }
+    for name in ["re", "regs", ""] {
+        added(desk, &one, &correction(&["m"], name, range(7)), &[1]);
+    }
+    let mut named = correction(&["m"], "reg", range(7));
+    named.root.name = b"board".to_vec();
+    let mut board = one.clone();
+    board.root.name = b"other".to_vec();
+    added(desk, &board, &named, &[7]);
+    added(
+        desk,
+        &board,
+        &correction(&["other", "m"], "reg", range(7)),
+        &[1],
+    );
+    named.root = Node::new("m").with("reg", range(7));
+    added(desk, &one, &named, &[1]);
+}
+
+/// The service tree's nodes and list add nothing, but it must have the form.
+fn pair_adds_nothing(desk: &mut Desk) {
+    let mut own = tree(&[
+        Node::memory("more", reg((2, 2), &[(0x5000, 6)])).with("numa-node-id", word(64)),
+        Node::new("reserved-memory").holding(Node::new("other").with("reg", [1; 3])),
+        Node::memory("ragged", [1; 5]),
+    ]);
+    own.list = vec![(0x3000, 2), (0, 1)];
+    let mut c = Case::new(desk);
+    c.intake_tree(&board(), 0);
+    let alone = c.block.clone();
+    let mut c = Case::new(desk);
+    c.intake_trees(&board(), &own, 0);
+    c.expect("block", c.block.clone(), alone);
+    // Both lists are there: the board's counts.
+    let mut listed = board();
+    listed.list = vec![(0x7000, 1)];
+    let mut c = Case::new(desk);
+    c.intake_trees(&listed, &own, 0);
+    c.table(&TAKEN, &[(0x1100, 0x10, 0, 0), (0x7000, 1, 0, 0)]);
+}
+
+/// Stored trees with a bare root, and beside themselves.
+fn pair_stored(desk: &mut Desk) {
+    let bare = Sketch::of(&Tree::default()).bytes();
+    for stored in stored::all() {
+        let mut c = Case::new(desk);
+        c.intake_tree_bytes(stored.bytes, 0);
+        let alone = c.block.clone();
+        let mut c = Case::new(desk);
+        c.intake_trees_bytes(stored.bytes, &bare, 0);
+        c.expect(stored.name, c.block.clone(), alone.clone());
+        let both: Arc<[u8]> = stored.bytes.into();
+        let mut c = Case::new(desk);
+        let call = Call::IntakeTrees {
+            board: both.clone(),
+            service: both,
+        };
+        c.does(call, 0);
+        // Of these trees only one has several nodes of one path.
+        if stored.name != "two-reserved" {
+            c.expect(stored.name, c.block.clone(), alone);
+        }
+        // Nothing of a service tree alone.
+        let mut c = Case::new(desk);
+        c.intake_trees_bytes(&bare, stored.bytes, 0);
+        c.count(&MEMORY, 0);
+        c.count(&TAKEN, 0);
+    }
+}
+
+/// Each condition of the form broken in either tree.
+fn pair_broken(desk: &mut Desk) {
+    let good = Sketch::of(&board()).bytes();
+    for broken in Break::ALL.into_iter().filter(|b| b.is_of_the_form()) {
+        for turn in 0..4 {
+            let mut rng = Rng::new(turn, "pair", broken as u64);
+            let bad = broken.done_to(&mut rng, &board());
+            let mut c = Case::new(desk);
+            c.intake_trees_bytes(&good, &bad, 11);
+            c.intake_trees_bytes(&bad, &good, 11);
+            let (good, bad): (Arc<[u8]>, Arc<[u8]>) = (good[..].into(), bad.into());
+            for (service, board) in [(&good, &bad), (&bad, &good), (&bad, &bad)] {
+                let call = pairs::lookup(service, board, b"/memory", b"reg");
+                c.asks(call, Err(11));
+            }
+        }
+    }
+}
+
+/// 1 before 11 before 6.
+fn pair_numbers(desk: &mut Desk) {
+    let empty = tree(&[memory_node(&[])]);
+    let fills = correction(&["memory"], "reg", reg((2, 2), &apart(0, 200)));
+    let full = tree(&[memory_node(&apart(0, 200))]);
+    let empties = correction(&["memory"], "reg", []);
+    let wrong = correction(&["memory"], "numa-node-id", word(64));
+    let mut c = Case::new(desk);
+    c.intake_trees(&empty, &fills, 6);
+    c.intake_trees(&full, &Tree::default(), 6);
+    c.intake_trees(&full, &wrong, 11);
+    c.intake_trees(&full, &empties, 0);
+    let bytes = Sketch::of(&full).bytes();
+    c.intake_trees_bytes(&bytes, &[], 11);
+    c.intake_trees_bytes(&[], &bytes, 11);
+    // Each kind of command refused, after one that was done.
+    let mut listed = tree(&[memory_node(&[(0, 1)]), reserved_node(&[])]);
+    listed.list = apart(1, TAKEN.capacity as u64);
+    let buffer = ["reserved-memory", "buffer"];
+    let reserve = correction(&buffer, "reg", reg((2, 2), &[(1 << 40, 1)]));
+    let mut c = Case::new(desk);
+    c.intake_trees(&listed, &reserve, 6);
+    c.intake_trees(&listed, &Tree::default(), 0);
+    c.block[0] = 0;
+    c.intake_trees(&full, &empties, 1);
+    c.intake_trees(&full, &wrong, 1);
+    c.intake_trees_bytes(&[], &[], 1);
+}
+
+/// A tree with all that a path can be about, and what is found at each.
+fn lookup_paths(desk: &mut Desk) {
+    let odd = Node::new("board")
+        .with("a", "root")
+        .with("", "unnamed")
+        .holding(
+            Node::new("n")
+                .with("a", "first n")
+                .holding(Node::new("m").with("a", "n, m").with("b", "n, m, b")),
+        )
+        .holding(
+            Node::new("n")
+                .with("a", "second n")
+                .with("c", "second n, c"),
+        )
+        .holding(Node::new("").with("a", "nameless").with("d", "nameless, d"))
+        .holding(
+            Node::new("n/m")
+                .with("b", "slashed, b")
+                .with("e", "slashed, e")
+                .with("e", "slashed, e again"),
+        )
+        .holding(Node::new("").holding(Node::new("").with("a", "nameless twice")))
+        .holding(Node::new("n").holding(Node::new("").with("a", "nameless in n")))
+        .holding(Node::new("none").with("empty", []));
+    let mut deep = Node::new("n").with("deep", "16");
+    for _ in 3..=16 {
+        deep = Node::new("n").holding(deep);
+    }
+    let odd = Tree {
+        list: Vec::new(),
+        root: odd.holding(deep),
+    };
+    let odd: Arc<[u8]> = Sketch::of(&odd).bytes().into();
+    let bare: Arc<[u8]> = Sketch::of(&Tree::default()).bytes().into();
+    let (deep, deeper) = ("/n".repeat(15), "/n".repeat(16));
+    for (path, name, value) in [
+        ("/", "a", Some("root")),
+        ("/", "", Some("unnamed")),
+        ("/", "d", Some("nameless, d")),
+        ("/n", "a", Some("first n")),
+        ("/n", "c", Some("second n, c")),
+        ("/n/m", "a", Some("n, m")),
+        ("/n/m", "b", Some("n, m, b")),
+        ("/n/m", "e", Some("slashed, e")),
+        ("//", "a", Some("nameless twice")),
+        ("/n/", "a", Some("nameless in n")),
+        ("/none", "empty", Some("")),
+        (&deep, "deep", Some("16")),
+        (&deep[..28], "deep", None),
+        (&deeper, "deep", None),
+        ("/board", "a", None),
+        ("/board/n", "a", None),
+        ("board", "a", None),
+        ("/m", "a", None),
+        ("/n/m/", "a", None),
+        ("/no", "empty", None),
+        ("/nones", "empty", None),
+        ("/none/", "empty", None),
+        ("/none", "empt", None),
+        ("/none", "emptys", None),
+        ("/none", "", None),
+        ("/none", "empty\0", None),
+        ("/none\0", "empty", None),
+        ("", "a", None),
+        ("", "", None),
+        ("n", "a", None),
+        ("///", "a", None),
+        ("//n", "a", None),
+    ] {
+        for (service, board, number) in [
+            (&odd, &bare, number::IN_SERVICE),
+            (&bare, &odd, number::IN_BOARD),
+            (&odd, &odd, number::IN_SERVICE),
+        ] {
+            found(desk, service, board, (path, name), number, value);
+        }
+    }
+    // The service tree first, an empty value too, and only where it has the property.
+    let a = |value: &str| Node::new("n").with("a", value);
+    let node = |node: Node| -> Arc<[u8]> {
+        let root = Node::new("").holding(node);
+        let list = Vec::new();
+        Sketch::of(&Tree { list, root }).bytes().into()
+    };
+    let board = node(a("the board's").with("b", "b"));
+    for value in ["another", ""] {
+        let service = node(a(value));
+        let at = ("/n", "a");
+        found(desk, &service, &board, at, number::IN_SERVICE, Some(value));
+        let at = ("/n", "b");
+        found(desk, &service, &board, at, number::IN_BOARD, Some("b"));
+        found(desk, &service, &board, ("/", "a"), 0, None);
+    }
+}
+
+/// A lookup gives this number and value, or neither.
+fn found(
+    desk: &mut Desk,
+    service: &Arc<[u8]>,
+    board: &Arc<[u8]>,
+    (path, name): (&str, &str),
+    number: u32,
+    value: Option<&str>,
+) {
+    let call = pairs::lookup(service, board, path.as_bytes(), name.as_bytes());
+    let mut slip = vec![0x77; SLIP_LEN];
+    let got = desk.call(&call, &mut [], &mut slip);
+    let (at, length) = (get_u64(&slip, 0) as usize, get_u64(&slip, 8) as usize);
+    let tree = match got {
+        number::IN_SERVICE => service,
+        _ => board,
+    };
+    let part = tree.get(at..at.saturating_add(length));
+    let right = match value {
+        Some(value) => got == number && at > 0 && part == Some(value.as_bytes()),
+        None => got == number::IN_NEITHER && slip == [0; SLIP_LEN],
+    };
+    if !right {
+        desk.fail(&format!(
+            "{}: {got}, {at:#x}, {length:#x}, not {value:?}",
+            call.text()
+        ));
+    }
+}
+
+/// Properties of the stored trees, all of the made ones, and of the real ones every
+/// seventh and the last.
+fn lookup_stored(desk: &mut Desk) {
+    let bare: Arc<[u8]> = Sketch::of(&Tree::default()).bytes().into();
+    for stored in stored::all() {
+        let tree: Arc<[u8]> = stored.bytes.into();
+        let listing = model::tree::properties(stored.bytes).expect("it has the form");
+        let last = listing.len().saturating_sub(1);
+        let few = stored.bytes.len() < 2000;
+        for (i, (path, name, _)) in listing.iter().enumerate() {
+            if !few && i % 7 != 0 && i != last {
+                continue;
+            }
+            for (service, board) in [(&bare, &tree), (&tree, &bare), (&tree, &tree)] {
+                let mut slip = vec![0x77; SLIP_LEN];
+                let call = pairs::lookup(service, board, path, name);
+                let number = desk.call(&call, &mut [], &mut slip);
+                if number != number::IN_SERVICE + u32::from(Arc::ptr_eq(service, &bare)) {
+                    desk.fail(&format!("{}: {number}", call.text()));
+                }
+            }
+        }
+    }
+}
+
+/// 8 before 11, the slip as it was; 11 with zeros.
+fn lookup_refused(desk: &mut Desk) {
+    let good: Arc<[u8]> = Sketch::of(&board()).bytes().into();
+    let none: Arc<[u8]> = [][..].into();
+    for (service, board) in [(&good, &good), (&none, &good), (&good, &none)] {
+        let call = pairs::lookup(service, board, b"/memory", b"reg");
+        for length in (0..40).filter(|&length| length != SLIP_LEN) {
+            let mut slip = vec![0x77; length];
+            let number = desk.call(&call, &mut [], &mut slip);
+            if number != number::BAD_SLIP || slip != vec![0x77; length] {
+                desk.fail(&format!("{number} for a slip of {length} bytes"));
+            }
+        }
+        let mut slip = vec![0x77; SLIP_LEN];
+        let number = desk.call(&call, &mut [], &mut slip);
+        let wanted = match Arc::ptr_eq(service, board) {
+            true => number::IN_SERVICE,
+            false => number::BAD_TREE,
+        };
+        if number != wanted || wanted == number::BAD_TREE && slip != [0; SLIP_LEN] {
+            desk.fail(&format!("{number} for the lookup, not {wanted}, or a slip"));
+        }
+    }
 }

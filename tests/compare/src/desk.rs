@@ -15,6 +15,8 @@ use std::time::Duration;
 
 /// Bytes before and after every lent buffer that must stay as they are.
 const GUARD: usize = 64;
+/// The most buffers that a call only reads.
+const SOURCES: usize = 4;
 /// The numbers that may be answered are below this.
 const NUMBERS: usize = 13;
 
@@ -43,6 +45,9 @@ impl Where {
         );
         if self.call.command().takes_slip() {
             text += &format!(", slip of {} bytes", self.slip_len);
+        }
+        if self.call.lent().windows(2).any(|two| two[0] == two[1]) {
+            text += ", both trees in one buffer";
         }
         text
     }
@@ -159,7 +164,7 @@ pub struct Desk {
     pub frees: Frees,
     block_room: Lent,
     slip_room: Lent,
-    source_room: Lent,
+    source_rooms: [Lent; SOURCES],
 }
 
 impl Desk {
@@ -178,7 +183,7 @@ impl Desk {
             frees: Frees::default(),
             block_room: Lent::new(),
             slip_room: Lent::new(),
-            source_room: Lent::new(),
+            source_rooms: std::array::from_fn(|_| Lent::new()),
         }
     }
 
@@ -202,15 +207,21 @@ impl Desk {
         };
         self.block_room.fill(block, self.calls);
         self.slip_room.fill(slip, self.calls.wrapping_mul(7) + 3);
-        self.source_room
-            .fill(call.source(), self.calls.wrapping_mul(5) + 1);
+        let sources = call.sources();
+        for (i, (room, source)) in self.source_rooms.iter_mut().zip(&sources).enumerate() {
+            room.fill(source.1, self.calls.wrapping_mul(5 + 4 * i as u64) + 1);
+        }
+        let lent: Vec<(*const u8, usize)> = (call.lent().into_iter())
+            .map(|i| {
+                let bytes = self.source_rooms[i].bytes();
+                (bytes.as_ptr(), bytes.len())
+            })
+            .collect();
 
         *NOW.lock().expect("never poisoned") = Some(place.clone());
-        let got = call.on_archive(
-            self.block_room.bytes(),
-            self.slip_room.bytes(),
-            self.source_room.bytes(),
-        );
+        // The rooms are as many buffers, and each is filled.
+        let got =
+            unsafe { call.on_archive(self.block_room.bytes(), self.slip_room.bytes(), &lent) };
         *NOW.lock().expect("never poisoned") = None;
         DONE.store(self.calls, Ordering::Relaxed);
 
@@ -230,16 +241,13 @@ impl Desk {
         if !command.allowed().contains(&got) {
             wrong += &format!("  number: {got} is not one that this command can give\n");
         }
-        for (what, room, wanted, before) in [
+        let written = [
             ("block", &mut self.block_room, &*block, &before[..]),
             ("slip", &mut self.slip_room, &*slip, &slip_before),
-            (
-                "report, tree or old block",
-                &mut self.source_room,
-                call.source(),
-                call.source(),
-            ),
-        ] {
+        ];
+        let read = self.source_rooms.iter_mut().zip(&sources);
+        let read = read.map(|(room, (what, source))| (*what, room, &source[..], &source[..]));
+        for (what, room, wanted, before) in written.into_iter().chain(read) {
             if let Some(at) = room.broken() {
                 wrong += &format!("  a byte outside the lent {what} was written, at {at}\n");
             }
@@ -260,17 +268,19 @@ impl Desk {
             eprintln!("{}", place.text());
             eprint!("{wrong}");
             eprintln!("{}", describe(&before));
-            match command {
-                Command::Intake => eprint!("{}", entries(call.source())),
-                Command::IntakeTree => eprint!("{}", tree(call.source())),
-                Command::Convert => eprintln!("{}", describe_old(call.source())),
-                _ => {}
+            for (what, source) in &sources {
+                match command {
+                    Command::Intake => eprint!("{}", entries(source)),
+                    Command::Convert => eprintln!("{}", describe_old(source)),
+                    _ if what.ends_with("tree") => eprint!("  {what}:\n{}", tree(source)),
+                    _ => {}
+                }
             }
             std::process::exit(1);
         }
         self.pairs[command as usize][got as usize] += 1;
         // Searches that no check refused; in allocate 6 speaks of an address found.
-        if command.takes_slip() && matches!(got, 0 | 5 | 6) {
+        if command.searches() && matches!(got, 0 | 5 | 6) {
             self.sides.note(call, &before, got, slip);
             self.runs.note(call, &before, got, slip);
             self.wishes.note(call, &before, got);

@@ -173,9 +173,9 @@ fn refused_by_others(
     let near = Near::to(wanted);
     let mut calls = 0;
     for &command in there {
-        // Fresh asks for the length alone.
+        // Fresh asks for the length alone, a lookup for no block.
         let from = match command {
-            Command::Convert => continue,
+            Command::Convert | Command::Lookup => continue,
             Command::Fresh => &lent[..3],
             _ => &lent[..],
         };

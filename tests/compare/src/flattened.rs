@@ -134,8 +134,27 @@ pub fn run(desk: &mut Desk, until: u64) -> Tally {
 /// A tree, and its commands as its writer has them in mind, by a call each.
 fn by_calls(desk: &mut Desk, start: &[u8], made: &Made, tally: &mut Tally) {
     let asks = made.tree.asks().expect("a random tree is read");
-    let mut called = start.to_vec();
-    let mut wanted = number::DONE;
+    let (wanted, called) = one_by_one(desk, start, asks);
+    let mut block = start.to_vec();
+    let number = intake(desk, &made.bytes, &mut block);
+    if number != wanted || block != called {
+        let quirks = &made.quirks;
+        desk.fail(&format!(
+            "the intake answers {number}, its commands {wanted}, or they leave another block; \
+             the tree has {quirks:?}"
+        ));
+    }
+    tally.by_calls += 1;
+    tally.full += u64::from(number == number::TABLE_FULL);
+    for (quirk, met) in Quirk::ALL.iter().zip(&mut tally.quirks) {
+        *met += u64::from(made.quirks.contains(quirk));
+    }
+}
+
+/// The commands by a call each: the number, and the block, which is as it was where one was
+/// refused.
+pub fn one_by_one(desk: &mut Desk, start: &[u8], asks: Vec<Ask>) -> (u32, Vec<u8>) {
+    let mut block = start.to_vec();
     for ask in asks {
         let call = match ask {
             Ask::Add { base, size, node } => Call::Add {
@@ -156,26 +175,12 @@ fn by_calls(desk: &mut Desk, start: &[u8], made: &Made, tally: &mut Tally) {
                 flag: NO_MAP,
             },
         };
-        wanted = desk.call(&call, &mut called, &mut []);
-        if wanted != number::DONE {
-            called = start.to_vec();
-            break;
+        let number = desk.call(&call, &mut block, &mut []);
+        if number != number::DONE {
+            return (number, start.to_vec());
         }
     }
-    let mut block = start.to_vec();
-    let number = intake(desk, &made.bytes, &mut block);
-    if number != wanted || block != called {
-        let quirks = &made.quirks;
-        desk.fail(&format!(
-            "the intake answers {number}, its commands {wanted}, or they leave another block; \
-             the tree has {quirks:?}"
-        ));
-    }
-    tally.by_calls += 1;
-    tally.full += u64::from(number == number::TABLE_FULL);
-    for (quirk, met) in Quirk::ALL.iter().zip(&mut tally.quirks) {
-        *met += u64::from(made.quirks.contains(quirk));
-    }
+    (number::DONE, block)
 }
 
 /// Stored trees; small ones cut off at every byte, by the lent bytes and by the total

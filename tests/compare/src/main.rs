@@ -1,5 +1,5 @@
 //! Calls the archive and the model on equal bytes and compares the number and
-//! every byte of block, slip, report, tree and old block. See README.md.
+//! every byte of block, slip, report, trees, path, name and old block. See README.md.
 
 mod archive;
 mod blocks;
@@ -14,6 +14,7 @@ mod limits;
 mod lists;
 mod numbers;
 mod orders;
+mod pairs;
 mod reports;
 mod runs;
 mod wishes;
@@ -35,10 +36,13 @@ const CALLS_PER_REPORT_PAIR: u64 = 5;
 /// One tree that is read is asked for in this many calls of their part.
 const CALLS_PER_TREE: u64 = 60;
 
+/// One pair of trees that is read is asked for in this many calls of their part.
+const CALLS_PER_TREES: u64 = 60;
+
 /// In the order of a whole run: what finds most in few calls comes first.
-const PARTS: [&str; 10] = [
-    "cases", "faults", "lengths", "editions", "damage", "trees", "fills", "lists", "orders",
-    "walks",
+const PARTS: [&str; 11] = [
+    "cases", "faults", "lengths", "editions", "damage", "trees", "pairs", "fills", "lists",
+    "orders", "walks",
 ];
 
 struct Options {
@@ -139,7 +143,7 @@ fn main() {
             "cases" => {
                 let cases = cases::run(desk);
                 println!(
-                    "cases: all {cases} of document 01 and those of requests E1, E3 to E8 and E10, {} calls",
+                    "cases: all {cases} of document 01 and those of requests E1 and E3 to E10, {} calls",
                     desk.calls
                 );
             }
@@ -149,6 +153,7 @@ fn main() {
             "editions" => editions(desk, &there, options.share(3)),
             "damage" => damage(desk, &there, options.share(13)),
             "trees" => trees(desk, options.share(6)),
+            "pairs" => pairs(desk, options.share(6)),
             "faults" => faults(desk, &there, options.share(8)),
             "fills" => fills(desk, &there, options.share(25)),
             _ => walks(desk, options.calls.saturating_sub(desk.calls)),
@@ -398,6 +403,68 @@ fn trees(desk: &mut Desk, calls: u64) {
     }
 }
 
+/// Pairs of trees.
+fn pairs(desk: &mut Desk, calls: u64) {
+    let commands = [Command::IntakeTrees, Command::Lookup];
+    if !commands.into_iter().all(Command::is_there) {
+        println!("pairs: no intake of two trees or no lookup in the archive");
+        return;
+    }
+    let before = desk.calls;
+    let tally = pairs::run(desk, before + calls);
+    let rarest = |counts: &[u64]| *counts.iter().min().expect("there are some");
+    println!(
+        "pairs: {} calls, {} pairs read as their commands by calls ({} refused with 6), {} refused \
+         for a value, {} otherwise than the board alone; {} corrections each met {} times at least; \
+         looked up and found in the service tree {}, in the board's {}, in neither {}, empty {}, by \
+         {} aims each met {} times at least; {} ways of breaking one of two each {} times; damaged \
+         anyhow {} read and {} not; {} with a bare root, {} beside themselves, {} with a bad block",
+        desk.calls - before,
+        tally.by_calls,
+        tally.full,
+        tally.values,
+        tally.changed,
+        tally.corrections.len(),
+        rarest(&tally.corrections),
+        tally.found[0],
+        tally.found[1],
+        tally.found[2],
+        tally.empty,
+        tally.aims.len(),
+        rarest(&tally.aims),
+        tally.broken.len(),
+        rarest(&tally.broken),
+        tally.damaged[0],
+        tally.damaged[1],
+        tally.bare,
+        tally.same,
+        tally.bad_blocks,
+    );
+    let floor = calls / CALLS_PER_TREES;
+    for (what, count, floor) in [
+        ("pairs read", tally.by_calls, floor),
+        ("pairs refused with 6", tally.full, floor / 50),
+        ("pairs refused for a value", tally.values, floor / 10),
+        ("pairs with an effect", tally.changed, floor / 2),
+        (
+            "properties found in the service tree",
+            tally.found[0],
+            floor / 2,
+        ),
+        ("properties found in the board's", tally.found[1], floor / 2),
+        ("properties found in neither", tally.found[2], floor / 2),
+        ("empty values", tally.empty, floor / 20),
+        ("damaged pairs read", tally.damaged[0], floor / 20),
+        ("damaged pairs not read", tally.damaged[1], floor / 20),
+    ] {
+        if count < floor {
+            stop(&format!(
+                "only {count} {what} were met, at least {floor} asked for"
+            ));
+        }
+    }
+}
+
 /// Blocks and slips of other lengths.
 fn lengths(desk: &mut Desk, there: &[Command], calls: u64) {
     let before = desk.calls;
@@ -548,10 +615,11 @@ fn fills(desk: &mut Desk, there: &[Command], calls: u64) {
         met[1][t] += 1;
         let near = Near::to(&bytes);
         for &command in there {
-            // Fresh, the two sets and convert do not look at the fill; searches have
-            // most to try.
+            // Fresh, the two sets, convert and a lookup do not look at the fill; searches
+            // have most to try.
             let times = match command {
                 Command::Fresh | Command::Set | Command::SetImageEnd | Command::Convert => 1,
+                Command::Lookup => 1,
                 Command::NextFree | Command::Find | Command::Allocate => 4,
                 _ => 2,
             };
@@ -620,7 +688,7 @@ fn walks(desk: &mut Desk, calls: u64) {
                 call::Call::Convert(_) => rng.one_in(8),
                 call::Call::Trim { alignment } => alignment <= 4096 || rng.one_in(8),
                 call::Call::Intake(_) => rng.one_in(3),
-                call::Call::IntakeTree(_) => rng.one_in(2),
+                call::Call::IntakeTree(_) | call::Call::IntakeTrees { .. } => rng.one_in(2),
                 call::Call::Range { size, .. } | call::Call::Mark { size, .. } => {
                     size < 1 << 62 || rng.one_in(4)
                 }

@@ -4,6 +4,7 @@ use crate::blocks::{get_u64, read_recs, some_flags, Rec};
 use crate::call::{Call, Command};
 use crate::editions;
 use crate::flattened;
+use crate::pairs;
 use crate::reports;
 use crate::rng::Rng;
 use model::layout::*;
@@ -389,6 +390,8 @@ impl Near {
             Command::Allocate => Call::Allocate(self.query(rng, faults)),
             Command::Intake => Call::Intake(reports::some(rng, self, faults).into()),
             Command::IntakeTree => Call::IntakeTree(flattened::some(rng, self, faults).into()),
+            Command::IntakeTrees => pairs::some(rng, self, faults),
+            Command::Lookup => pairs::some_lookup(rng, self, faults),
             Command::Convert => Call::Convert(editions::some_old(rng, faults).into()),
             Command::Mark | Command::Unmark => {
                 let (base, size) = self.range(rng);

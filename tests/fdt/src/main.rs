@@ -4,11 +4,16 @@
 //! damaged anyhow, and each way of breaking one. For each, in little-endian words of
 //! 4 bytes: its kind, its length, its bytes, what becomes of it (0: read, 1: a value
 //! refused, 2: refused for its form) and how many commands it asks for; then of each
-//! command what (0: add, 1: reserve, 2: mark), node, and as 8 bytes base and size.
+//! command what (0: add, 1: reserve, 2: mark), node, and as 8 bytes base and size; then how
+//! many lookups follow, of each the length of its path and its path, the length of its name
+//! and its name, whether the tree has it (0 or 1), and its value's offset and length. Of a
+//! stored tree every property is looked up.
 
-use model::tree::{asks, Ask, Fault};
+use model::tree::{asks, lookup, properties, Ask, Fault};
 use std::process::ExitCode;
+use trees::node::Listed;
 use trees::rng::Rng;
+use trees::service::some_aim;
 use trees::{broken, random, stored, Break};
 
 const STORED: u32 = 0;
@@ -16,7 +21,35 @@ const RANDOM: u32 = 1;
 const DAMAGED: u32 = 2;
 const BROKEN: u32 = 3;
 
-fn put(out: &mut Vec<u8>, kind: u32, bytes: &[u8]) {
+/// Lookups in a tree that is no stored one, and in a stored one besides its properties.
+const LOOKUPS: usize = 4;
+const MORE_LOOKUPS: usize = 200;
+
+/// Paths and names to look up in a tree; none in one that has not the form.
+fn lookups(rng: &mut Rng, kind: u32, bytes: &[u8]) -> Vec<(Vec<u8>, Vec<u8>)> {
+    let Ok(listed) = properties(bytes) else {
+        return Vec::new();
+    };
+    let listed: Vec<Listed> = (listed.into_iter())
+        .map(|(path, name, value)| (path, name.to_vec(), value.to_vec()))
+        .collect();
+    let mut lookups = Vec::new();
+    if kind == STORED {
+        lookups.extend(listed.iter().map(|l| (l.0.clone(), l.1.clone())));
+    }
+    let more = if kind == STORED {
+        MORE_LOOKUPS
+    } else {
+        LOOKUPS
+    };
+    lookups.extend((0..more).map(|_| {
+        let (_, path, name) = some_aim(rng, &listed);
+        (path, name)
+    }));
+    lookups
+}
+
+fn put(out: &mut Vec<u8>, rng: &mut Rng, kind: u32, bytes: &[u8]) {
     let values = [Fault::Cells, Fault::Reg, Fault::NodeId];
     let (verdict, asks) = match asks(bytes) {
         Ok(asks) => (0u32, asks),
@@ -39,6 +72,19 @@ fn put(out: &mut Vec<u8>, kind: u32, bytes: &[u8]) {
         out.extend(base.to_le_bytes());
         out.extend(size.to_le_bytes());
     }
+    let lookups = lookups(rng, kind, bytes);
+    let word = |out: &mut Vec<u8>, x: usize| out.extend((x as u32).to_le_bytes());
+    word(out, lookups.len());
+    for (path, name) in lookups {
+        for text in [&path, &name] {
+            word(out, text.len());
+            out.extend(text);
+        }
+        let place = lookup(bytes, &path, &name).expect("the tree has the form");
+        word(out, usize::from(place.is_some()));
+        word(out, place.map_or(0, |place| place.at));
+        word(out, place.map_or(0, |place| place.length));
+    }
 }
 
 fn main() -> ExitCode {
@@ -53,8 +99,9 @@ fn main() -> ExitCode {
         return ExitCode::from(2);
     };
     let mut out = Vec::new();
+    let mut rng = Rng::new(seed, "fdt stored", 0);
     for tree in stored::all() {
-        put(&mut out, STORED, tree.bytes);
+        put(&mut out, &mut rng, STORED, tree.bytes);
     }
     let mut range = |rng: &mut Rng| match rng.below(4) {
         0 => (rng.any_size(), rng.any_size()),
@@ -62,11 +109,14 @@ fn main() -> ExitCode {
     };
     for turn in 0..count {
         let mut rng = Rng::new(seed, "fdt", turn);
-        let made = random::some(&mut rng, &mut range);
-        put(&mut out, RANDOM, &made.bytes);
-        put(&mut out, DAMAGED, &broken::damaged(&mut rng, made.bytes));
+        let rng = &mut rng;
+        let made = random::some(rng, &mut range);
+        put(&mut out, rng, RANDOM, &made.bytes);
+        let bytes = broken::damaged(rng, made.bytes);
+        put(&mut out, rng, DAMAGED, &bytes);
         let how = Break::ALL[turn as usize % Break::ALL.len()];
-        put(&mut out, BROKEN, &how.done_to(&mut rng, &made.tree));
+        let bytes = how.done_to(rng, &made.tree);
+        put(&mut out, rng, BROKEN, &bytes);
     }
     match std::fs::write(file, out) {
         Ok(()) => ExitCode::SUCCESS,

@@ -148,13 +148,13 @@ pub mod tree {
     /// The deepest level of a node, the root's being 1.
     pub const DEPTH: i64 = 16;
 
-    /// Names of properties, each with its zero.
-    pub const ADDRESS_CELLS: &[u8] = b"#address-cells\0";
-    pub const SIZE_CELLS: &[u8] = b"#size-cells\0";
-    pub const DEVICE_TYPE: &[u8] = b"device_type\0";
-    pub const REG: &[u8] = b"reg\0";
-    pub const NODE_ID: &[u8] = b"numa-node-id\0";
-    pub const NO_MAP_NAME: &[u8] = b"no-map\0";
+    /// Names of properties.
+    pub const ADDRESS_CELLS: &[u8] = b"#address-cells";
+    pub const SIZE_CELLS: &[u8] = b"#size-cells";
+    pub const DEVICE_TYPE: &[u8] = b"device_type";
+    pub const REG: &[u8] = b"reg";
+    pub const NODE_ID: &[u8] = b"numa-node-id";
+    pub const NO_MAP_NAME: &[u8] = b"no-map";
     /// The `device_type` of memory.
     pub const MEMORY_TYPE: &[u8] = b"memory\0";
     /// The name of a node whose children are reserved or marked.
@@ -181,4 +181,9 @@ pub mod number {
     pub const BAD_REPORT: u32 = 10;
     pub const BAD_TREE: u32 = 11;
     pub const NOT_TAKEN: u32 = 12;
+
+    /// What a lookup answers.
+    pub const IN_NEITHER: u32 = 0;
+    pub const IN_SERVICE: u32 = 1;
+    pub const IN_BOARD: u32 = 2;
 }

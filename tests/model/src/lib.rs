@@ -1,8 +1,8 @@
 //! A second program for the memory tables of document 01, the E820 intake of
 //! request E1, the limit of request E3, the larger block of request E4, the run's
 //! end of request E5, the flags and wishes of request E6, the image end of request
-//! E7, the tree of request E8 and the frees of request E10, written from those pages
-//! alone, to be compared with the library call by call.
+//! E7, the tree of request E8, the two trees of request E9 and the frees of request E10,
+//! written from those pages alone, to be compared with the library call by call.
 //!
 //! It shares no idea with a program that walks tables of records: a table is a
 //! map from boundary points to states, a search looks at whole free runs and
@@ -21,7 +21,7 @@ pub use line::Line;
 use board::{long, narrow, word};
 use layout::number::*;
 use layout::*;
-use tree::Ask;
+use tree::{Ask, Fault, Holder};
 
 /// What find and allocate are asked for.
 #[derive(Clone, Copy, Debug, PartialEq, Eq, Hash)]
@@ -140,8 +140,33 @@ pub fn intake_e820(block: &mut [u8], report: &[u8]) -> u32 {
 
 /// Does what a flattened tree asks for, one command after the other.
 pub fn intake_tree(block: &mut [u8], bytes: &[u8]) -> u32 {
+    take_in(block, || tree::asks(bytes))
+}
+
+/// The same of a board's tree with the corrections of a service tree.
+pub fn intake_trees(block: &mut [u8], board: &[u8], service: &[u8]) -> u32 {
+    take_in(block, || tree::pair_asks(board, service))
+}
+
+/// Which of two trees has a property, and where.
+pub fn lookup(service: &[u8], board: &[u8], path: &[u8], name: &[u8], slip: &mut [u8]) -> u32 {
+    if slip.len() != SLIP_LEN {
+        return BAD_SLIP;
+    }
+    let (number, place) = match tree::pair_lookup(service, board, path, name) {
+        Ok(Holder::Service(place)) => (IN_SERVICE, Some(place)),
+        Ok(Holder::Board(place)) => (IN_BOARD, Some(place)),
+        Ok(Holder::Neither) => (IN_NEITHER, None),
+        Err(_) => (BAD_TREE, None),
+    };
+    let place = place.map(|place| (place.at as u128, place.length as u128));
+    tell(slip, place.ok_or(number));
+    number
+}
+
+fn take_in(block: &mut [u8], asks: impl FnOnce() -> Result<Vec<Ask>, Vec<Fault>>) -> u32 {
     let after = good(block).and_then(|mut board| {
-        for ask in tree::asks(bytes).map_err(|_| BAD_TREE)? {
+        for ask in asks().map_err(|_| BAD_TREE)? {
             match ask {
                 Ask::Add { base, size, node } => put_in(&mut board, base, size, Tag::plain(node)),
                 Ask::Reserve { base, size } => {

@@ -1,9 +1,11 @@
-//! A flattened tree: what must hold for it to be read, and the commands it says.
+//! A flattened tree: what must hold for it to be read, and the commands it says; two of
+//! them, where the one corrects the other.
 //!
 //! Nothing here goes down into a node. The structure block is cut into a flat list of
 //! tokens, and each condition is asked of that list as a whole: of the levels behind its
 //! tokens, of its neighbours. Nodes are found by their level. All faults of a part are
-//! listed, not the first alone.
+//! listed, not the first alone. A path is not followed: every node's own is written down,
+//! and the first property whose path and name are those asked for is taken.
 
 use crate::layout::tree::*;
 
@@ -62,27 +64,164 @@ pub enum Ask {
 
 /// The commands of a tree in order, or what is wrong with it.
 pub fn asks(bytes: &[u8]) -> Result<Vec<Ask>, Vec<Fault>> {
-    let parts = parts(bytes)?;
-    let list = list(parts.list);
-    let nodes = nodes(parts.structure, parts.strings);
-    let (list, nodes) = match (list, nodes) {
-        (Ok(list), Ok(nodes)) => (list, nodes),
-        (list, nodes) => {
-            let mut faults: Vec<Fault> = list.err().into_iter().collect();
-            faults.extend(nodes.err().into_iter().flatten());
-            return Err(faults);
+    let tree = formed(bytes)?;
+    tree.asks(|at, name| tree.nodes[at].value(name))
+}
+
+/// The same of a board's tree, each property being the first at its node's path in the
+/// service tree, if there is one.
+pub fn pair_asks(board: &[u8], service: &[u8]) -> Result<Vec<Ask>, Vec<Fault>> {
+    let (board, service) = both(formed(board), formed(service))?;
+    let paths = board.paths();
+    let corrections = service.listing();
+    board.asks(|at, name| {
+        let corrected = first(&corrections, &paths[at], name);
+        corrected.or_else(|| board.nodes[at].value(name))
+    })
+}
+
+/// A property's value in a tree: where it begins, and how long it is.
+#[derive(Clone, Copy, Debug, PartialEq, Eq)]
+pub struct Place {
+    pub at: usize,
+    pub length: usize,
+}
+
+/// Which of two trees has a property.
+#[derive(Clone, Copy, Debug, PartialEq, Eq)]
+pub enum Holder {
+    Neither,
+    Service(Place),
+    Board(Place),
+}
+
+/// The first property of a path and a name in a tree, or what is wrong with its form.
+pub fn lookup(bytes: &[u8], path: &[u8], name: &[u8]) -> Result<Option<Place>, Vec<Fault>> {
+    let value = first(&formed(bytes)?.listing(), path, name);
+    Ok(value.map(|value| Place {
+        at: value.as_ptr() as usize - bytes.as_ptr() as usize,
+        length: value.len(),
+    }))
+}
+
+/// The same of two trees, of which the service tree comes first.
+pub fn pair_lookup(
+    service: &[u8],
+    board: &[u8],
+    path: &[u8],
+    name: &[u8],
+) -> Result<Holder, Vec<Fault>> {
+    let places = both(lookup(service, path, name), lookup(board, path, name))?;
+    Ok(match places {
+        (Some(place), _) => Holder::Service(place),
+        (None, Some(place)) => Holder::Board(place),
+        (None, None) => Holder::Neither,
+    })
+}
+
+/// A property in its place: path, name and what follows it, value.
+pub type Listed<'a> = (Vec<u8>, &'a [u8], &'a [u8]);
+
+/// Every property of a tree in tree order: path, name, value.
+pub fn properties(bytes: &[u8]) -> Result<Vec<Listed<'_>>, Vec<Fault>> {
+    let listing = formed(bytes)?.listing().into_iter();
+    let ended = listing.map(|(path, name, value)| {
+        let end = name.iter().position(|&byte| byte == 0);
+        (path, &name[..end.expect("a name has its zero")], value)
+    });
+    Ok(ended.collect())
+}
+
+fn first<'a>(listing: &[Listed<'a>], path: &[u8], name: &[u8]) -> Option<&'a [u8]> {
+    let mut named = listing
+        .iter()
+        .filter(|listed| listed.0 == path && is_named(listed.1, name));
+    named.next().map(|listed| listed.2)
+}
+
+/// Whether what stands in the strings block from a place on is a name and its zero.
+fn is_named(strings: &[u8], name: &[u8]) -> bool {
+    strings
+        .strip_prefix(name)
+        .is_some_and(|rest| rest.first() == Some(&0))
+        && !name.contains(&0)
+}
+
+/// Both, or the faults of both.
+fn both<A, B>(
+    one: Result<A, Vec<Fault>>,
+    other: Result<B, Vec<Fault>>,
+) -> Result<(A, B), Vec<Fault>> {
+    match (one, other) {
+        (Ok(one), Ok(other)) => Ok((one, other)),
+        (one, other) => {
+            let mut faults = one.err().unwrap_or_default();
+            faults.extend(other.err().unwrap_or_default());
+            Err(faults)
         }
-    };
-    let said = said(&nodes)?;
-    let reserves = list
-        .into_iter()
-        .map(|(base, size)| Ask::Reserve { base, size });
-    let marks = said.no_map.into_iter();
-    Ok((said.memory.into_iter())
-        .chain(reserves)
-        .chain(said.reserved)
-        .chain(marks)
-        .collect())
+    }
+}
+
+/// A tree that has the form: all that is asked of it but cells, `reg` and node ids.
+struct Formed<'a> {
+    list: Vec<(u64, u64)>,
+    /// In tree order.
+    nodes: Vec<Node<'a>>,
+}
+
+fn formed(bytes: &[u8]) -> Result<Formed<'_>, Vec<Fault>> {
+    let parts = parts(bytes)?;
+    let list = list(parts.list).map_err(|fault| vec![fault]);
+    let (list, nodes) = both(list, nodes(parts.structure, parts.strings))?;
+    Ok(Formed { list, nodes })
+}
+
+impl<'a> Formed<'a> {
+    /// The commands in order, the value of a node's property being `value`'s.
+    fn asks<'v>(
+        &self,
+        value: impl Fn(usize, &[u8]) -> Option<&'v [u8]>,
+    ) -> Result<Vec<Ask>, Vec<Fault>> {
+        let said = said(&self.nodes, value)?;
+        let list = self.list.iter();
+        let reserves = list.map(|&(base, size)| Ask::Reserve { base, size });
+        let marks = said.no_map.into_iter();
+        Ok((said.memory.into_iter())
+            .chain(reserves)
+            .chain(said.reserved)
+            .chain(marks)
+            .collect())
+    }
+
+    /// The path of each node. On the way to a node is what was begun last at each level
+    /// above it.
+    fn paths(&self) -> Vec<Vec<u8>> {
+        let mut way: Vec<&[u8]> = Vec::new();
+        let nodes = self.nodes.iter();
+        nodes
+            .map(|node| {
+                way.truncate(node.level - ROOT);
+                way.push(node.name);
+                match &way[ROOT..] {
+                    [] => b"/".to_vec(),
+                    below => (below.iter())
+                        .flat_map(|name| [b"/", *name].concat())
+                        .collect(),
+                }
+            })
+            .collect()
+    }
+
+    /// Every property with its path. A node's own come before those of what stands in it.
+    fn listing(&self) -> Vec<Listed<'a>> {
+        let paths = self.paths().into_iter().zip(&self.nodes);
+        paths
+            .flat_map(|(path, node)| {
+                let properties = node.properties.iter();
+                properties.map(move |&(name, value)| (path.clone(), name, value))
+            })
+            .collect()
+    }
 }
 
 /// A big-endian number of any length up to 8 bytes.
@@ -225,10 +364,9 @@ struct Node<'a> {
 }
 
 impl<'a> Node<'a> {
-    /// The first property of a name, which is given with its zero.
+    /// The first property of a name.
     fn value(&self, name: &[u8]) -> Option<&'a [u8]> {
-        assert_eq!(name.last(), Some(&0));
-        let mut named = self.properties.iter().filter(|p| p.0.starts_with(name));
+        let mut named = self.properties.iter().filter(|p| is_named(p.0, name));
         named.next().map(|property| property.1)
     }
 }
@@ -312,11 +450,14 @@ struct Said {
 
 const ROOT: usize = 1;
 
-fn said(nodes: &[Node]) -> Result<Said, Vec<Fault>> {
-    let root = &nodes[0];
+/// `value`: that of a property of a node, which is given by its number.
+fn said<'v>(
+    nodes: &[Node],
+    value: impl Fn(usize, &[u8]) -> Option<&'v [u8]>,
+) -> Result<Said, Vec<Fault>> {
     let cells = [
-        number(root.value(ADDRESS_CELLS), DEFAULT_ADDRESS_CELLS, CELLS),
-        number(root.value(SIZE_CELLS), DEFAULT_SIZE_CELLS, CELLS),
+        number(value(0, ADDRESS_CELLS), DEFAULT_ADDRESS_CELLS, CELLS),
+        number(value(0, SIZE_CELLS), DEFAULT_SIZE_CELLS, CELLS),
     ];
     let [Some(address_cells), Some(size_cells)] = cells else {
         return Err(vec![Fault::Cells]);
@@ -325,8 +466,8 @@ fn said(nodes: &[Node]) -> Result<Said, Vec<Fault>> {
         WORD_LEN * address_cells as usize,
         WORD_LEN * size_cells as usize,
     );
-    let ranges = |node: &Node| -> Option<Vec<(u64, u64)>> {
-        let entries = node.value(REG).unwrap_or(&[]).chunks_exact(first + second);
+    let ranges = |at: usize| -> Option<Vec<(u64, u64)>> {
+        let entries = value(at, REG).unwrap_or(&[]).chunks_exact(first + second);
         let whole = entries.remainder().is_empty();
         let pairs = entries.map(|entry| (big(&entry[..first]), big(&entry[first..])));
         whole.then(|| pairs.collect())
@@ -334,12 +475,12 @@ fn said(nodes: &[Node]) -> Result<Said, Vec<Fault>> {
     let mut said = Said::default();
     let mut broken = Vec::new();
     let mut in_reserved = false;
-    for node in nodes {
+    for (at, node) in nodes.iter().enumerate() {
         if node.level == ROOT + 1 {
             in_reserved = node.name == RESERVED_MEMORY;
-            if node.value(DEVICE_TYPE) == Some(MEMORY_TYPE) {
-                let id = number(node.value(NODE_ID), 0, 0..=LAST_NODE);
-                match (id, ranges(node)) {
+            if value(at, DEVICE_TYPE) == Some(MEMORY_TYPE) {
+                let id = number(value(at, NODE_ID), 0, 0..=LAST_NODE);
+                match (id, ranges(at)) {
                     (Some(node), Some(ranges)) => {
                         let adds = ranges.into_iter();
                         let adds = adds.map(|(base, size)| Ask::Add { base, size, node });
@@ -353,12 +494,12 @@ fn said(nodes: &[Node]) -> Result<Said, Vec<Fault>> {
             }
         }
         if node.level == ROOT + 2 && in_reserved {
-            let Some(ranges) = ranges(node) else {
+            let Some(ranges) = ranges(at) else {
                 broken.push(Fault::Reg);
                 continue;
             };
             let ranges = ranges.into_iter();
-            match node.value(NO_MAP_NAME) {
+            match value(at, NO_MAP_NAME) {
                 Some(_) => {
                     let marks = ranges.map(|(base, size)| Ask::Mark { base, size });
                     said.no_map.extend(marks);

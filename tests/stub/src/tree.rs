@@ -1,8 +1,9 @@
 //! The intake of a flattened tree: one pass over the structure block, with what was seen
-//! of each open node on a stack.
+//! of each open node on a stack. For a pair the same pass lists the service tree, and puts
+//! what it lists in the place of what was seen of the board's.
 
 use crate::{cut, fill, lent, lent_mut, mutant, parse, put_image_end, put_table};
-use crate::{shortest, split, trimmed, NOW, NO_MAP, PAGE};
+use crate::{shortest, split, trimmed, Block, NOW, NO_MAP, PAGE};
 
 const DEPTH: usize = 16;
 
@@ -122,8 +123,51 @@ fn part(t: &[u8], at: usize, len: usize, limits: (usize, usize)) -> Option<&[u8]
     (end <= limit).then(|| &t[at.min(t.len())..end.min(t.len())])
 }
 
+/// A property as it is met: where it stands, and what it says.
+struct Met<'a> {
+    path: Vec<u8>,
+    /// The names on the way, and how many nodes began before this one.
+    levels: Vec<&'a [u8]>,
+    node: usize,
+    name: &'a [u8],
+    value: &'a [u8],
+    /// Where the value begins in the structure block.
+    at: usize,
+}
+
+/// What a tree of the form holds.
+struct Tree<'a> {
+    list: Vec<(u64, u64)>,
+    structure_at: usize,
+    nodes: Nodes<'a>,
+}
+
+/// The nodes that matter, as they were seen, and if asked for every property.
+struct Nodes<'a> {
+    root: Seen<'a>,
+    memories: Vec<Seen<'a>>,
+    reserved: Vec<(Seen<'a>, [Option<&'a [u8]>; 2])>,
+    met: Vec<Met<'a>>,
+    alone: bool,
+}
+
+/// What is done to a node of a path and a level once all of it is seen.
+type Correct<'c, 'a> = Option<&'c mut dyn FnMut(&[u8], usize, &mut Seen<'a>)>;
+
 /// What a tree asks for, if it is read.
 fn read(t: &[u8]) -> Option<Asked> {
+    asked(&form(t, false, None)?)
+}
+
+fn asked(tree: &Tree) -> Option<Asked> {
+    let nodes = &tree.nodes;
+    let mut asked = values(&nodes.root, &nodes.memories, &nodes.reserved)?;
+    asked.list = tree.list.clone();
+    Some(asked)
+}
+
+/// A tree that has the form; `listed`: with every property.
+fn form<'a>(t: &'a [u8], listed: bool, correct: Correct<'_, 'a>) -> Option<Tree<'a>> {
     let field = |i: usize| word(t, 4 * i);
     let limits = (field(1)?, t.len());
     let limit = limits.0.min(limits.1);
@@ -188,17 +232,47 @@ fn read(t: &[u8]) -> Option<Asked> {
     } else {
         strings
     };
-    let mut asked = nodes(structure, strings)?;
-    asked.list = pairs;
-    Some(asked)
+    Some(Tree {
+        list: pairs,
+        structure_at,
+        nodes: nodes(structure, strings, listed, correct)?,
+    })
 }
 
-/// What the nodes of a structure block ask for.
-fn nodes(block: &[u8], strings: &[u8]) -> Option<Asked> {
+/// The path of the innermost of these nodes.
+fn path_of(stack: &[Seen]) -> Vec<u8> {
+    let mut path = Vec::new();
+    // mutant 265: the root's name is in the paths, if it has one
+    let root = usize::from(!mutant(265) || stack[0].name.is_empty());
+    for seen in &stack[root..] {
+        // mutant 266: a node without a name is in no path
+        if mutant(266) && seen.name.is_empty() {
+            continue;
+        }
+        path.push(b'/');
+        path.extend(seen.name);
+    }
+    if path.is_empty() {
+        path.push(b'/');
+    }
+    path
+}
+
+/// The nodes of a structure block.
+fn nodes<'a>(
+    block: &'a [u8],
+    strings: &'a [u8],
+    listed: bool,
+    mut correct: Correct<'_, 'a>,
+) -> Option<Nodes<'a>> {
+    let mut begun = 0;
+    let mut met: Vec<Met> = Vec::new();
+    // Of each open node, for a fault.
+    let mut own: Vec<Vec<Met>> = Vec::new();
     let mut stack: Vec<Seen> = Vec::new();
     let mut root: Option<Seen> = None;
     let mut memories: Vec<Seen> = Vec::new();
-    let mut reserved: Vec<(Seen, [Option<&[u8]>; 2])> = Vec::new();
+    let mut reserved: Vec<(Seen<'a>, [Option<&'a [u8]>; 2])> = Vec::new();
     let mut reserved_parents = 0;
     let mut alone = true;
     // A node has ended here.
@@ -253,9 +327,18 @@ fn nodes(block: &[u8], strings: &[u8]) -> Option<Asked> {
                     name,
                     ..Seen::default()
                 });
+                own.push(Vec::new());
+                begun += 1;
                 late = false;
             }
             2 => {
+                if let Some(last) = stack.len().checked_sub(1) {
+                    if let Some(correct) = &mut correct {
+                        let path = path_of(&stack);
+                        correct(&path, last + 1, &mut stack[last]);
+                    }
+                    met.extend(own.pop().expect("one is open"));
+                }
                 let Some(seen) = stack.pop() else {
                     // mutant 199: an end without a beginning is passed over
                     if mutant(199) && root.is_some() {
@@ -348,6 +431,21 @@ fn nodes(block: &[u8], strings: &[u8]) -> Option<Asked> {
                     }
                     return None;
                 };
+                if listed {
+                    let one = Met {
+                        path: path_of(&stack),
+                        levels: stack[1..].iter().map(|seen| seen.name).collect(),
+                        node: begun,
+                        name: &rest[..zero],
+                        value,
+                        at: end - rounded,
+                    };
+                    // mutant 267: a node's own properties come after those of its nodes
+                    match own.last_mut() {
+                        Some(own) if mutant(267) => own.push(one),
+                        _ => met.push(one),
+                    }
+                }
                 let seen = stack.last_mut().expect("one is open");
                 seen.note(&rest[..zero], value);
             }
@@ -397,7 +495,13 @@ fn nodes(block: &[u8], strings: &[u8]) -> Option<Asked> {
     if mutant(176) && alone {
         return None;
     }
-    values(&root?, &memories, &reserved)
+    Some(Nodes {
+        root: root?,
+        memories,
+        reserved,
+        met,
+        alone,
+    })
 }
 
 /// The root's cells of one kind.
@@ -573,6 +677,26 @@ pub unsafe extern "C" fn memblock_intake_tree(
         // mutant 251: a bad tree gets 10
         return if mutant(251) { 10 } else { 11 };
     };
+    let number = take_in(b, &tables, &asked);
+    if number != 0 {
+        return number;
+    }
+    // mutant 263: a byte of the tree is written
+    if mutant(263) {
+        board
+            .cast_mut()
+            .add(board_len - 1)
+            .write(t[t.len() - 1] ^ 1);
+    }
+    // mutant 264: the byte past the tree is written
+    if mutant(264) {
+        board.cast_mut().add(board_len).write(0);
+    }
+    0
+}
+
+/// Does what a tree asks for, all or nothing.
+fn take_in(b: &mut [u8], tables: &Block, asked: &Asked) -> u32 {
     let mut adds: Vec<Step> = (asked.adds.iter().map(|&(b, s, n)| Step::Add(b, s, n))).collect();
     let reserve = |list: &[(u64, u64)]| -> Vec<Step> {
         list.iter().map(|&(b, s)| Step::Reserve(b, s)).collect()
@@ -640,16 +764,392 @@ pub unsafe extern "C" fn memblock_intake_tree(
     if mutant(262) {
         put_image_end(b, 0);
     }
-    // mutant 263: a byte of the tree is written
-    if mutant(263) {
-        board
-            .cast_mut()
-            .add(board_len - 1)
-            .write(t[t.len() - 1] ^ 1);
-    }
-    // mutant 264: the byte past the tree is written
-    if mutant(264) {
-        board.cast_mut().add(board_len).write(0);
-    }
     0
+}
+
+/// Whether a property is of a path.
+fn at_path(met: &Met, path: &[u8]) -> bool {
+    match () {
+        // mutant 268: a path is compared name by name, so that none has a slash
+        _ if mutant(268) => {
+            let below: Vec<&[u8]> = match path {
+                b"/" => Vec::new(),
+                [b'/', rest @ ..] => rest.split(|&byte| byte == b'/').collect(),
+                _ => return false,
+            };
+            below == met.levels
+        }
+        // mutant 269: a node's path need only begin with the path asked for
+        _ if mutant(269) => !path.is_empty() && met.path.starts_with(path),
+        // mutant 270: a node's path need only be the beginning of the path asked for
+        _ if mutant(270) => path.starts_with(&met.path),
+        // mutant 271: the unit address of the last name may be left out
+        _ if mutant(271) && !path.contains(&b'@') => {
+            let unit = met.path.iter().rposition(|&byte| byte == b'@');
+            met.path[..unit.unwrap_or(met.path.len())] == *path
+        }
+        // mutant 272: the slash in front may be left out
+        _ if mutant(272) => met.path == path || &met.path[1..] == path,
+        // mutant 273: a slash at the end is passed over
+        _ if mutant(273) && path.len() > 1 => met.path == path.strip_suffix(b"/").unwrap_or(path),
+        // mutant 274: an empty path is the root's
+        _ if mutant(274) && path.is_empty() => met.path == b"/",
+        // mutant 275: a nameless child of the root is not at the root's path
+        _ if mutant(275) && path == b"/" => met.levels.is_empty(),
+        // mutant 276: what is deeper than level 8 is not found
+        _ if mutant(276) && met.levels.len() >= 8 => false,
+        // mutant 277: two slashes in a row are one
+        _ if mutant(277) => {
+            let mut one = path.to_vec();
+            one.dedup_by(|a, b| *a == b'/' && *b == b'/');
+            met.path == one
+        }
+        _ => met.path == path,
+    }
+}
+
+/// Whether a property is of a name.
+fn has_name(met: &Met, name: &[u8]) -> bool {
+    match () {
+        // mutant 278: a property's name need only begin with the name asked for
+        _ if mutant(278) => met.name.starts_with(name),
+        // mutant 279: a property's name need only be the beginning of the name asked for
+        _ if mutant(279) => !met.name.is_empty() && name.starts_with(met.name),
+        // mutant 280: a name asked for ends at its first zero
+        _ if mutant(280) => name.split(|&byte| byte == 0).next() == Some(met.name),
+        // mutant 281: a property without a name is not found
+        _ if mutant(281) => met.name == name && !name.is_empty(),
+        _ => met.name == name,
+    }
+}
+
+/// The property that counts of a path and a name.
+fn first<'m, 'a>(met: &'m [Met<'a>], path: &[u8], name: &[u8], looks: bool) -> Option<&'m Met<'a>> {
+    let mut found = met
+        .iter()
+        .filter(|met| at_path(met, path) && has_name(met, name));
+    // mutant 282: of several in the tree a lookup finds the last
+    // mutant 283: of several corrections the last counts
+    let one = match mutant(282) && looks || mutant(283) && !looks {
+        true => found.next_back(),
+        false => found.next(),
+    };
+    // mutant 284: of several nodes of one path only the first is looked into
+    let node = met.iter().find(|met| at_path(met, path))?.node;
+    let one = one.filter(|one| !mutant(284) || one.node == node);
+    // mutant 285: a lookup takes an empty value for none
+    // mutant 286: an empty value corrects nothing
+    let empty_is_none = mutant(285) && looks || mutant(286) && !looks;
+    one.filter(|one| !empty_is_none || !one.value.is_empty())
+}
+
+/// The slots of a node that a service tree can correct, each with its name.
+const CORRECTED: [&[u8]; 6] = [
+    b"reg",
+    b"device_type",
+    b"#address-cells",
+    b"#size-cells",
+    b"numa-node-id",
+    b"no-map",
+];
+
+impl<'a> Seen<'a> {
+    fn slot(&mut self, which: usize) -> &mut Option<&'a [u8]> {
+        match which {
+            0 => &mut self.reg,
+            1 => &mut self.device_type,
+            2 => &mut self.cells[0],
+            3 => &mut self.cells[1],
+            4 => &mut self.id,
+            _ => &mut self.no_map,
+        }
+    }
+}
+
+/// The board's tree with what the service tree has at its nodes' paths in their place.
+fn corrected<'a>(board: &'a [u8], service: &Tree<'a>) -> Option<Tree<'a>> {
+    let met = &service.nodes.met;
+    let mut before: Vec<Vec<u8>> = Vec::new();
+    let mut correct = |path: &[u8], level: usize, seen: &mut Seen<'a>| {
+        // mutant 287: corrections reach the root's nodes alone
+        // mutant 288: corrections do not reach what is reserved
+        // mutant 289: corrections do not reach the root
+        let reached = match () {
+            _ if mutant(287) => level == 2,
+            _ if mutant(288) => level < 3,
+            _ if mutant(289) => level > 1,
+            _ => true,
+        };
+        // mutant 290: a second node of one path is not corrected
+        let again = mutant(290) && before.iter().any(|other| other == path);
+        before.push(path.to_vec());
+        if !reached || again {
+            return;
+        }
+        for (which, name) in CORRECTED.into_iter().enumerate() {
+            // mutant 291: the service tree's reg is passed over
+            // mutant 292: its device_type
+            // mutant 293: its cells
+            // mutant 294: its node id
+            // mutant 295: its no-map
+            let passed = match name {
+                b"reg" => mutant(291),
+                b"device_type" => mutant(292),
+                b"numa-node-id" => mutant(294),
+                b"no-map" => mutant(295),
+                _ => mutant(293),
+            };
+            let slot = seen.slot(which);
+            // mutant 296: a property that the node has not itself is passed over
+            if passed || mutant(296) && slot.is_none() {
+                continue;
+            }
+            // mutant 297: a correction counts by its name, whatever its path
+            let found = match mutant(297) {
+                true => met.iter().find(|met| met.name == name),
+                false => first(met, path, name, false),
+            };
+            if let Some(found) = found {
+                *slot = Some(found.value);
+            } else if mutant(298) && met.iter().any(|met| at_path(met, path)) {
+                // mutant 298: what a node of the service tree has not counts as empty
+                *slot = slot.map(|_| &[][..]);
+            } else if mutant(299) && met.iter().any(|met| at_path(met, path)) {
+                // mutant 299: what a node of the service tree has not is away
+                *slot = None;
+            }
+        }
+    };
+    form(board, false, Some(&mut correct))
+}
+
+/// What a pair asks for, if it is read.
+fn read_pair(board: &[u8], service: &[u8]) -> Option<Asked> {
+    let bare;
+    let listed = match form(service, true, None) {
+        Some(listed) => listed,
+        // mutant 300: a service tree that has not the form corrects nothing
+        None if mutant(300) => {
+            bare = Tree {
+                list: Vec::new(),
+                structure_at: 0,
+                nodes: Nodes {
+                    root: Seen::default(),
+                    memories: Vec::new(),
+                    reserved: Vec::new(),
+                    met: Vec::new(),
+                    alone: true,
+                },
+            };
+            bare
+        }
+        None => return None,
+    };
+    // mutant 301: a service tree that is a root alone is refused
+    if mutant(301) && listed.nodes.alone && listed.nodes.met.is_empty() {
+        return None;
+    }
+    // mutant 302: a board's tree that has not the form asks for nothing
+    let Some(tree) = corrected(board, &listed) else {
+        return mutant(302).then(Asked::default);
+    };
+    // mutant 303: the values are asked of the board's own, not of those found
+    // mutant 304: the values are asked of both
+    // mutant 305: the commands are those of the board's own values, where these may be
+    // mutant 306: the values of the service tree's own nodes are asked too
+    let own = read(board);
+    let mut asked = match asked(&tree) {
+        _ if own.is_none() && (mutant(303) || mutant(304)) => return None,
+        _ if asked(&listed).is_none() && mutant(306) => return None,
+        Some(_) if own.is_some() && mutant(305) => own?,
+        None if mutant(303) => own?,
+        asked => asked?,
+    };
+    // mutant 307: the service tree's list is reserved too
+    if mutant(307) {
+        asked.list.extend(&listed.list);
+    }
+    // mutant 308: the service tree's memory is added too
+    // mutant 309: what the service tree has under /reserved-memory is reserved too
+    if let (true, Some(more)) = (mutant(308) || mutant(309), self::asked(&listed)) {
+        match mutant(308) {
+            true => asked.adds.extend(more.adds),
+            false => asked.reserves.extend(more.reserves),
+        }
+    }
+    // mutant 310: the list is the service tree's
+    if mutant(310) {
+        asked.list = listed.list;
+    }
+    Some(asked)
+}
+
+/// # Safety
+/// As in lib.rs; the trees may be one.
+#[no_mangle]
+pub unsafe extern "C" fn memblock_intake_trees(
+    block: *mut u8,
+    len: usize,
+    board: *const u8,
+    board_len: usize,
+    service: *const u8,
+    service_len: usize,
+) -> u32 {
+    let b = lent_mut(block, len);
+    let (t, s) = (lent(board, board_len), lent(service, service_len));
+    // mutant 311: the two trees are taken the wrong way round
+    let asked = match mutant(311) {
+        true => read_pair(s, t),
+        false => read_pair(t, s),
+    };
+    // mutant 312: of a pair 11 comes before 1
+    if mutant(312) && asked.is_none() {
+        return 11;
+    }
+    let Some(tables) = parse(b) else { return 1 };
+    // mutant 313: one buffer for both trees is refused
+    let refused = asked.is_none() || mutant(313) && board == service;
+    let Some(asked) = asked.filter(|_| !refused) else {
+        // mutant 314: a refusal 11 clears the image end
+        if mutant(314) {
+            put_image_end(b, 0);
+        }
+        // mutant 315: a bad pair gets 10
+        return if mutant(315) { 10 } else { 11 };
+    };
+    let before = b.to_vec();
+    let number = take_in(b, &tables, &asked);
+    // mutant 316: a refusal 6 of a pair leaves the ranges that do fit
+    if mutant(316) && number == 6 {
+        let adds = Asked {
+            adds: asked.adds[..1.min(asked.adds.len())].to_vec(),
+            ..Asked::default()
+        };
+        b.copy_from_slice(&before);
+        take_in(b, &tables, &adds);
+    }
+    // mutant 317: a byte of the service tree is written
+    if mutant(317) && number == 0 {
+        let last = service.cast_mut().add(service_len - 1);
+        last.write(!last.read());
+    }
+    number
+}
+
+/// # Safety
+/// As in lib.rs; the trees may be one.
+#[no_mangle]
+#[allow(clippy::too_many_arguments)]
+pub unsafe extern "C" fn memblock_lookup(
+    service: *const u8,
+    service_len: usize,
+    board: *const u8,
+    board_len: usize,
+    path: *const u8,
+    path_len: usize,
+    name: *const u8,
+    name_len: usize,
+    slip: *mut u8,
+    slip_len: usize,
+) -> u32 {
+    let (s, t) = (lent(service, service_len), lent(board, board_len));
+    let (path_bytes, name_bytes) = (lent(path, path_len), lent(name, name_len));
+    let slip_bytes = lent_mut(slip, slip_len);
+    let trees = [form(s, true, None), form(t, true, None)];
+    // mutant 318: 11 comes before 8
+    let formed = trees.iter().all(|tree| tree.is_some());
+    if mutant(318) && !formed && slip_len != 16 {
+        return 11;
+    }
+    // mutant 319: a longer slip will do
+    if slip_len < 16 || slip_len > 16 && !mutant(319) {
+        // mutant 320: a slip of another length is cleared
+        if mutant(320) {
+            slip_bytes.fill(0);
+        }
+        return 8;
+    }
+    let found = trees.each_ref().map(|tree| {
+        let tree = tree.as_ref()?;
+        let one = first(&tree.nodes.met, path_bytes, name_bytes, true)?;
+        // mutant 321: the offset is that in the structure block
+        // mutant 322: the offset is one more
+        // mutant 323: the offset is that of the property's token
+        let at = match () {
+            _ if mutant(321) => one.at,
+            _ if mutant(322) => tree.structure_at + one.at + 1,
+            _ if mutant(323) => tree.structure_at + one.at - 12,
+            _ => tree.structure_at + one.at,
+        };
+        // mutant 324: the length is with its padding
+        // mutant 325: the length is without the last byte, if that is zero
+        let length = match one.value {
+            _ if mutant(324) => padded(one.value.len()),
+            [front @ .., 0] if mutant(325) => front.len(),
+            value => value.len(),
+        };
+        // mutant 326: an empty value stands nowhere
+        match length {
+            0 if mutant(326) => Some((0, 0)),
+            _ => Some((at as u64, length as u64)),
+        }
+    });
+    // mutant 327: 11 speaks of the service tree alone
+    // mutant 328: 11 speaks of the board's tree alone
+    // mutant 329: the board's tree is not looked at where the service tree has it
+    // mutant 330: 11 only where both have not the form
+    let refused = match () {
+        _ if mutant(327) => trees[0].is_none(),
+        _ if mutant(328) => trees[1].is_none(),
+        _ if mutant(329) => trees[0].is_none() || trees[1].is_none() && found[0].is_none(),
+        _ if mutant(330) => trees[0].is_none() && trees[1].is_none(),
+        _ => !formed,
+    };
+    // mutant 331: a lookup refuses a tree whose values are not as the intake asks
+    let refused =
+        refused || mutant(331) && trees.iter().flatten().any(|tree| asked(tree).is_none());
+    // mutant 332: the board's value comes first
+    // mutant 333: what the service tree has not is an empty value of it
+    // mutant 334: the service tree is not looked into
+    let (number, place) = match found {
+        _ if refused => (11, (0, 0)),
+        [_, Some(place)] if mutant(332) => (2, place),
+        [None, Some(_)] if mutant(333) => (1, (0, 0)),
+        [Some(_), other] if mutant(334) => other.map_or((0, (0, 0)), |place| (2, place)),
+        [Some(place), _] => (1, place),
+        [None, Some(place)] => (2, place),
+        [None, None] => (0, (0, 0)),
+    };
+    // mutant 335: the slip of neither stays as it was
+    // mutant 336: the slip of 11 stays as it was
+    let kept = mutant(335) && number == 0 || mutant(336) && number == 11;
+    // mutant 337: offset and length change places
+    // mutant 338: the slip is big-endian
+    let (at, length) = match mutant(337) {
+        true => (place.1, place.0),
+        false => place,
+    };
+    for (half, x) in slip_bytes.chunks_mut(8).zip([at, length]) {
+        if !kept {
+            half[..8].copy_from_slice(&match mutant(338) {
+                true => x.to_be_bytes(),
+                false => x.to_le_bytes(),
+            });
+        }
+    }
+    // mutant 339: a byte of the path is written
+    if mutant(339) && path_len > 0 {
+        path.cast_mut().write(0);
+    }
+    // mutant 340: the byte past the slip is written
+    if mutant(340) {
+        slip.add(slip_len).write(0);
+    }
+    match number {
+        // mutant 341: service and board change places
+        1 | 2 if mutant(341) => 3 - number,
+        // mutant 342: a lookup in a bad tree gets 10
+        11 if mutant(342) => 10,
+        number => number,
+    }
 }

@@ -1,11 +1,12 @@
 //! Replays the boot program's transcript on the second program, line by line.
 //!
 //! `transcript NAME FILE`. For each call the line that the second program would
-//! have written, with its number, its block's sum and its slip, or its report's, tree's or
-//! old block's sum, must be the line that stands there; the same for both tables at the end.
+//! have written, with its number, its block's sum and its slip, or its report's, trees' or
+//! old block's sum, must be the line that stands there; the same for a value that was
+//! looked up, and for both tables at the end.
 //! Fails at the first difference, at a line it does not know, and when the
-//! transcript does not reach its end or leaves out a function, a number, a number of a
-//! tree's intake, a flag, a wish, a way that a bottom-up allocation can go from the image's
+//! transcript does not reach its end or leaves out a function, a number, a number of an
+//! intake of one tree or two or of a lookup, a flag, a wish, a way that a bottom-up allocation can go from the image's
 //! end, a second free of one range, or part of the memory map.
 
 use model::layout::*;
@@ -23,10 +24,11 @@ const LEGACY: (u64, u64) = (0xa0000, 0x60000);
 /// The report's bytes: room for one entry too many.
 const REPORT_LEN: usize = (REPORT_ENTRIES + 1) * REPORT_ENTRY_LEN + GUARD;
 
-/// The tree's bytes.
+/// The tree's bytes, and the service tree's.
 const TREE_LEN: usize = 32 * 1024 + GUARD;
+const SERVICE_LEN: usize = 2 * 1024 + GUARD;
 
-const FUNCTIONS: [&str; 16] = [
+const FUNCTIONS: [&str; 18] = [
     "memblock_fresh",
     "memblock_set",
     "memblock_set_image_end",
@@ -42,11 +44,18 @@ const FUNCTIONS: [&str; 16] = [
     "memblock_allocate",
     "memblock_intake_e820",
     "memblock_intake_tree",
+    "memblock_intake_trees",
+    LOOKUP,
     "memblock_convert",
 ];
 const NUMBERS: [u32; 12] = [0, 1, 2, 3, 4, 5, 6, 7, 8, 10, 11, 12];
-/// What a tree's intake can answer.
-const TREE_NUMBERS: [u32; 4] = [0, 1, 11, 6];
+const LOOKUP: &str = "memblock_lookup";
+/// What the intakes of trees and a lookup can answer.
+const TREE_NUMBERS: [(&str, &[u32]); 3] = [
+    ("memblock_intake_tree", &[0, 1, 11, 6]),
+    ("memblock_intake_trees", &[0, 1, 11, 6]),
+    (LOOKUP, &[0, 1, 2, 8, 11]),
+];
 /// The functions that take a flag or a wish as their last number, and each of these.
 const MARKS: [&str; 2] = ["memblock_mark", "memblock_unmark"];
 const EACH_FLAG: [u32; 3] = [HOTPLUG, MIRROR, NO_MAP];
@@ -123,11 +132,14 @@ struct Replay {
     calls: u64,
     met: BTreeSet<String>,
     numbers: BTreeSet<u32>,
-    /// The tree as it stands; what its intakes answered; how often the block of one was
-    /// the block of its commands.
+    /// The trees as they stand; what their intakes and lookups answered; how often the block
+    /// of an intake was the block of its commands.
     tree: Vec<u8>,
-    tree_numbers: BTreeSet<u32>,
+    service: Vec<u8>,
+    tree_numbers: BTreeSet<(String, u32)>,
     tree_same: u32,
+    /// The value that was looked up last, until it is written.
+    value: Option<Vec<u8>>,
     /// The memory map; the entries of the report as it stands; those of each
     /// report taken in, with its block; the ranges added to `mirror`, up to the
     /// first comparison.
@@ -168,8 +180,10 @@ impl Replay {
             met: BTreeSet::new(),
             numbers: BTreeSet::new(),
             tree: vec![0; TREE_LEN],
+            service: vec![0; SERVICE_LEN],
             tree_numbers: BTreeSet::new(),
             tree_same: 0,
+            value: None,
             map: Vec::new(),
             report: vec![0; REPORT_LEN],
             entries: Vec::new(),
@@ -228,10 +242,28 @@ impl Replay {
                     .ok_or("longer than the tree")?
                     .copy_from_slice(&bytes);
             }
-            ["poke", "tree", at, byte] => {
+            ["poke", which @ ("tree" | "service"), at, byte] => {
                 let at = hex(at)? as usize;
                 let byte = narrow(hex(byte)?)?;
-                *self.tree.get_mut(at).ok_or("outside the tree")? = byte;
+                let tree = match which {
+                    "tree" => &mut self.tree,
+                    _ => &mut self.service,
+                };
+                *tree.get_mut(at).ok_or("outside the tree")? = byte;
+            }
+            ["service", length] => {
+                let length = hex(length)? as usize;
+                let kept = self.tree.get(..length).ok_or("longer than the tree")?;
+                self.service.fill(FILL);
+                self.service[..SERVICE_LEN - GUARD]
+                    .get_mut(..length)
+                    .ok_or("longer than the service tree")?
+                    .copy_from_slice(kept);
+            }
+            ["value", _] => {
+                let value = self.value.take().ok_or("no value was looked up")?;
+                let digits: String = value.iter().map(|byte| format!("{byte:02x}")).collect();
+                return Ok((format!("value {digits}"), more));
             }
             ["entry", "base", base, "size", size, "kind", kind] => {
                 self.entry((hex(base)?, hex(size)?, narrow(hex(kind)?)?))?;
@@ -331,10 +363,51 @@ impl Replay {
         Ok(line)
     }
 
+    /// A lookup on the second program; its line.
+    fn lookup(&mut self, arguments: &str) -> Result<String, Wrong> {
+        let words: Vec<&str> = arguments.split(", ").collect();
+        let ["service", of_service, "tree", length, path, name, "slip", slip_length] = words[..]
+        else {
+            return Err(format!("unknown lookup: {arguments}"));
+        };
+        let service = self.service.get(..hex(of_service)? as usize);
+        let service = service.ok_or("longer than the service tree")?;
+        let tree = self.tree.get(..hex(length)? as usize);
+        let tree = tree.ok_or("longer than the tree")?;
+        let mut slip = [FILL; SLIP_LEN + GUARD];
+        let lent = slip.get_mut(..hex(slip_length)? as usize);
+        let lent = lent.ok_or("longer than the slip")?;
+        let number = model::lookup(service, tree, path.as_bytes(), name.as_bytes(), lent);
+        let whole = lent.len() == SLIP_LEN;
+        let half = |at| u64::from_le_bytes(slip[at..at + 8].try_into().expect("8 bytes"));
+        let mut line = format!("{LOOKUP}({arguments}) = {number:#x}");
+        if whole {
+            let _ = write!(line, " slip {:#x} {:#x}", half(0), half(8));
+        }
+        let sums = (sum(&self.tree), sum(&self.service));
+        let _ = write!(line, " tree {:#x} service {:#x}", sums.0, sums.1);
+        let part = half(0) as usize..half(0).wrapping_add(half(8)) as usize;
+        self.value = match number {
+            number::IN_SERVICE => Some(service[part].to_vec()),
+            number::IN_BOARD => Some(tree[part].to_vec()),
+            _ => None,
+        };
+        self.calls += 1;
+        self.met.insert(LOOKUP.into());
+        self.tree_numbers.insert((LOOKUP.into(), number));
+        Ok(line)
+    }
+
     /// Makes the call on the second program; its line.
     fn call(&mut self, function: &str, arguments: &str) -> Result<String, Wrong> {
+        if self.value.is_some() {
+            return Err("a value was looked up, and not written".into());
+        }
         if function == "memblock_convert" {
             return self.convert(arguments);
+        }
+        if function == LOOKUP {
+            return self.lookup(arguments);
         }
         let mut words = arguments.split(", ");
         let name = words.next().ok_or("no block")?.to_string();
@@ -342,12 +415,14 @@ impl Replay {
         let mut slip_length = None;
         let mut report_length = None;
         let mut tree_length = None;
+        let mut service_length = None;
         while let Some(word) = words.next() {
             let mut length = || words.next().ok_or("no length of what is lent".to_string());
             match word {
                 "slip" => slip_length = Some(hex(length()?)? as usize),
                 "report" => report_length = Some(hex(length()?)? as usize),
                 "tree" => tree_length = Some(hex(length()?)? as usize),
+                "service" => service_length = Some(hex(length()?)? as usize),
                 number => numbers.push(hex(number)?),
             }
         }
@@ -369,17 +444,26 @@ impl Replay {
             .tree
             .get(..tree_length.unwrap_or(0))
             .ok_or("longer than the tree")?;
+        let service = self
+            .service
+            .get(..service_length.unwrap_or(0))
+            .ok_or("longer than the service tree")?;
 
         let number = match (function, numbers, slip_length) {
             ("memblock_intake_e820", [], None) if report_length.is_some() => {
                 model::intake_e820(block, report)
             }
-            ("memblock_intake_tree", [], None) if tree_length.is_some() => {
-                let number = model::intake_tree(block, tree);
-                self.tree_numbers.insert(number);
-                number
+            ("memblock_intake_trees", [], None)
+                if tree_length.is_some() && service_length.is_some() =>
+            {
+                model::intake_trees(block, tree, service)
             }
-            _ if report_length.is_some() || tree_length.is_some() => {
+            ("memblock_intake_tree", [], None)
+                if tree_length.is_some() && service_length.is_none() =>
+            {
+                model::intake_tree(block, tree)
+            }
+            _ if report_length.or(tree_length).or(service_length).is_some() => {
                 return Err(format!("unknown call: {function}({arguments})"))
             }
             ("memblock_fresh", [], None) => model::fresh(block),
@@ -423,6 +507,10 @@ impl Replay {
         }
         if tree_length.is_some() {
             let _ = write!(line, " tree {:#x}", sum(&self.tree));
+            self.tree_numbers.insert((function.into(), number));
+        }
+        if service_length.is_some() {
+            let _ = write!(line, " service {:#x}", sum(&self.service));
         }
         if let (0 | 5, Some(&word)) = (number, numbers.last()) {
             self.words.insert((function.into(), word));
@@ -475,12 +563,14 @@ impl Replay {
                 return Err(format!("the number {number} was never answered"));
             }
         }
-        for number in TREE_NUMBERS {
-            if !self.tree_numbers.contains(&number) {
-                return Err(format!("no intake of a tree answered {number}"));
+        for (function, numbers) in TREE_NUMBERS {
+            for &number in numbers {
+                if !self.tree_numbers.contains(&(function.into(), number)) {
+                    return Err(format!("{function} never answered {number}"));
+                }
             }
         }
-        if self.tree_same != 2 {
+        if self.tree_same != 3 {
             return Err("the map as a tree was not compared with its commands".into());
         }
         let backwards: Vec<Entry> = self.map.iter().rev().copied().collect();

@@ -1,7 +1,7 @@
 //! Trees with one thing wrong, so that they must not be read.
 
 use crate::node::{reg, word, Node, Tree, DEPTH};
-use crate::random::{bytes, cells, chain, Quirk};
+use crate::random::{bytes, chain, Quirk};
 use crate::rng::Rng;
 use crate::sketch::*;
 
@@ -139,13 +139,19 @@ impl Break {
         bytes
     }
 
+    /// Whether it breaks the form, and not a value alone.
+    pub fn is_of_the_form(self) -> bool {
+        self < AddressCells
+    }
+
     fn is_of_the_tree(self) -> bool {
         self == Deep || self >= AddressCells
     }
 
     /// Wrong values, and levels.
     fn on_tree(self, rng: &mut Rng, tree: &mut Tree) {
-        let cells = cells(tree);
+        // A service tree's may be any.
+        let cells = tree.cells().unwrap_or((2, 1));
         let entry = 4 * (cells.0 + cells.1) as usize;
         let ragged = |rng: &mut Rng| {
             let part = match rng.below(3) {

@@ -1,4 +1,5 @@
-//! A tree as its writer has it in mind, and the commands that it then asks for.
+//! A tree as its writer has it in mind, the commands that it then asks for, and what it
+//! becomes by the corrections of another.
 
 /// The deepest level of a node, the root's being 1.
 pub const DEPTH: usize = 16;
@@ -36,6 +37,9 @@ pub struct Tree {
     pub list: Vec<(u64, u64)>,
     pub root: Node,
 }
+
+/// A property in its place: path, name and value.
+pub type Listed = (Vec<u8>, Vec<u8>, Vec<u8>);
 
 /// A word as a value.
 pub fn word(x: u32) -> Vec<u8> {
@@ -84,6 +88,19 @@ impl Node {
     pub fn first(&self, name: &str) -> Option<&Vec<u8>> {
         let property = self.properties.iter().find(|p| p.0 == name.as_bytes());
         property.map(|property| &property.1)
+    }
+
+    /// Goes through a node and those in it, in tree order, each with its path; `before` is
+    /// that of the node above, nothing for the root.
+    fn each(&mut self, before: Option<&[u8]>, seen: &mut dyn FnMut(&[u8], &mut Node)) {
+        let path = match before {
+            None => Vec::new(),
+            Some(before) => [before, b"/", &self.name].concat(),
+        };
+        seen(if before.is_none() { b"/" } else { &path }, self);
+        for child in &mut self.children {
+            child.each(Some(&path), seen);
+        }
     }
 
     /// How many levels of nodes there are.
@@ -159,6 +176,36 @@ impl Tree {
             }
         }
         Some(asks)
+    }
+
+    /// Every property in tree order.
+    pub fn listing(&self) -> Vec<Listed> {
+        let mut list = Vec::new();
+        self.root.clone().each(None, &mut |path, node| {
+            for (name, value) in &node.properties {
+                list.push((path.to_vec(), name.clone(), value.clone()));
+            }
+        });
+        list
+    }
+
+    /// The value of the first property of a path and a name.
+    pub fn lookup(&self, path: &[u8], name: &[u8]) -> Option<Vec<u8>> {
+        let mut list = self.listing().into_iter();
+        let found = list.find(|listed| listed.0 == path && listed.1 == name);
+        found.map(|listed| listed.2)
+    }
+
+    /// The tree with what another has at the path of each node before its own properties.
+    pub fn corrected(&self, service: &Tree) -> Tree {
+        let corrections = service.listing();
+        let mut tree = self.clone();
+        tree.root.each(None, &mut |path, node| {
+            let here = corrections.iter().filter(|listed| listed.0 == path);
+            let here = here.map(|(_, name, value)| (name.clone(), value.clone()));
+            node.properties = here.chain(node.properties.drain(..)).collect();
+        });
+        tree
     }
 
     /// The node at a path of child numbers.

@@ -2,8 +2,7 @@
 use Prim.Native.Nat.{_-_, _≤_}
 use mathlib.Core.Path.{_≡_, refl}
 use lib.ListN.{length}
-use Rattle.tree.specs.Content.{first}
-use Rattle.tree.specs.Steps.{contentsAt}
+use Rattle.tree.specs.Steps.{placesAt}
 use Rattle.lookup.specs.Values.{valueOf}
 use Rattle.tree.proofs.Following.{property-within}
 use Rattle.tree.proofs.Reading.{step-less}
@@ -14,7 +13,7 @@ use Rattle.lookup.proofs.find_property.Tie as tie
 
 abbrev Inv-loop : tie.InvT-loop
 Inv-loop strings names s name at i₀ i =
-    (i ≤ length s) × (valueOf strings name (first (contentsAt names s at)) ≡ valueOf strings name (first (contentsAt names s i)))
+    (i ≤ length s) × (valueOf strings name (placesAt names s at) ≡ valueOf strings name (placesAt names s i))
 
 abbrev μ-loop : tie.MeasureT-loop
 μ-loop strings names s name at i₀ i = length s - i

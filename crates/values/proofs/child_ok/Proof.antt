@@ -7,6 +7,18 @@ use Rattle.values.proofs.child_ok.Tie as tie
 memory-ok-requires : tie.Need-memory-ok-requires
 memory-ok-requires c κs = search needs
 
+add-end : tie.Need-add-end
+add-end c = search needs
+
+sub-same-bytes : tie.Need-sub-same-bytes
+sub-same-bytes c = search needs
+
+part-same-bytes-start : tie.Need-part-same-bytes-start
+part-same-bytes-start c = search needs
+
+part-same-bytes-end : tie.Need-part-same-bytes-end
+part-same-bytes-end c = search needs
+
 slice-aggregate-same-bytes : tie.Need-slice-aggregate-same-bytes
 slice-aggregate-same-bytes c = search needs
 
@@ -30,6 +42,10 @@ child-ok-spec =
     tie.close
     (tie.spec
     memory-ok-requires
+    add-end
+    sub-same-bytes
+    part-same-bytes-start
+    part-same-bytes-end
     slice-aggregate-same-bytes
     same-bytes-requires
     reserved-ok-requires

@@ -1,22 +1,21 @@
 -- `values::children_ok` meets its contract.
-use denote.Ref.{now}
-use native.Mathlib.Omega.{arith}
-use Prim.Native.Nat.{_+_, _-_, _≤_}
+use Prim.Native.Nat.{_-_, _≤_}
 use mathlib.Core.Path.{_≡_, refl}
 use mathlib.Core.Bool.{true, false}
 use lib.ListN.{length}
 use Rattle.tree.specs.Steps.{restAt, contentAt}
-use Rattle.values.specs.Steps.{childrenOk}
+use Rattle.values.specs.Steps.{gets, childrenOk}
 use Rattle.values.proofs.Children.{name-within, child-goes, inner-within, children-goes, after-within, after-less, children-last, children-bad, children-on}
 use borrow.Author.Needs.{needs}
 use Rattle.values.proofs.children_ok.Statement.{statement}
 use Rattle.values.proofs.children_ok.Tie as tie
 
 abbrev Inv-loop : tie.InvT-loop
-Inv-loop strings names s at width i₀ i = (i ≤ length s) × (restAt names s 1 false i ≡ true) × (childrenOk strings width (contentAt names s at) ≡ childrenOk strings width (contentAt names s i))
+Inv-loop ss service strings s pair at width i₀ i =
+    (i ≤ length s) × (restAt (pair .names) s 1 false i ≡ true) × (childrenOk (gets pair ss service strings) width (contentAt (pair .names) s at) ≡ childrenOk (gets pair ss service strings) width (contentAt (pair .names) s i))
 
 abbrev μ-loop : tie.MeasureT-loop
-μ-loop strings names s at width i₀ i = length s - i
+μ-loop ss service strings s pair at width i₀ i = length s - i
 
 loop-holds : tie.Need-loop-holds Inv-loop μ-loop
 loop-holds c = (search needs, search needs, refl)
@@ -33,22 +32,8 @@ enum-told c = search needs
 returns : tie.Need-returns Inv-loop μ-loop
 returns c = search (children-last, needs)
 
-add-end : tie.Need-add-end Inv-loop μ-loop
-add-end c =
-    let w : c .before .next .given .0 .0 + c .before .next .given .0 .1 .0 ≤ length (now (c .before .before .before .before .before .before .before .args .s)) = search (name-within, needs) in
-    omega (arith, w)
-
-sub-child-ok : tie.Need-sub-child-ok Inv-loop μ-loop
-sub-child-ok c = search needs
-
-part-child-ok-start : tie.Need-part-child-ok-start Inv-loop μ-loop
-part-child-ok-start c = search needs
-
-part-child-ok-end : tie.Need-part-child-ok-end Inv-loop μ-loop
-part-child-ok-end c = search (name-within, needs)
-
 child-ok-requires : tie.Need-child-ok-requires Inv-loop μ-loop
-child-ok-requires c κs = (search (inner-within, needs), search needs, search (child-goes, needs))
+child-ok-requires c κs = (search needs, search (name-within, needs), search (inner-within, needs), search needs, search (child-goes, needs))
 
 loop-less : tie.Need-loop-less Inv-loop μ-loop
 loop-less c = search (after-less, needs)
@@ -70,10 +55,6 @@ children-ok-spec =
     enum-known-next
     enum-told
     returns
-    add-end
-    sub-child-ok
-    part-child-ok-start
-    part-child-ok-end
     child-ok-requires
     loop-less
     loop-again

@@ -4,8 +4,8 @@ use borrow.Author.Needs.{needs}
 use Rattle.values.proofs.has.Statement.{statement}
 use Rattle.values.proofs.has.Tie as tie
 
-find-property-requires : tie.Need-find-property-requires
-find-property-requires c κs = search needs
+get-requires : tie.Need-get-requires
+get-requires c κs = search needs
 
 enum-told : tie.Need-enum-told
 enum-told c = search needs
@@ -20,4 +20,4 @@ returns-2 : tie.Need-returns-2
 returns-2 c = search (has-none, needs)
 
 pub has-spec : {M : Type 1} → statement M
-has-spec = tie.close (tie.spec find-property-requires enum-told enum-told-2 returns returns-2)
+has-spec = tie.close (tie.spec get-requires enum-told enum-told-2 returns returns-2)

@@ -2,19 +2,22 @@
 use Prim.Native.Nat.{_-_, _≤_}
 use mathlib.Core.Path.{_≡_, refl}
 use mathlib.Core.Bool.{true, false}
-use lib.ListN.{length}
+use mathlib.Core.List.{[], _∷_}
+use lib.ListN.{length, drop, take}
 use Rattle.tree.specs.Steps.{restAt, contentAt}
-use Rattle.values.specs.Steps.{reservedOk}
-use Rattle.values.proofs.Children.{inner-within, reserved-goes, after-within, after-less, reserved-last, reserved-bad, reserved-on}
+use Rattle.values.specs.Steps.{gets, reservedOk}
+use Rattle.values.proofs.Children.{name-within, inner-within, reserved-goes, after-within, after-less, reserved-last, reserved-bad, reserved-on}
 use borrow.Author.Needs.{needs}
 use Rattle.values.proofs.reserved_ok.Statement.{statement}
 use Rattle.values.proofs.reserved_ok.Tie as tie
 
 abbrev Inv-loop : tie.InvT-loop
-Inv-loop strings names s at width i₀ i = (i ≤ length s) × (restAt names s 2 false i ≡ true) × (reservedOk strings width (contentAt names s at) ≡ reservedOk strings width (contentAt names s i))
+Inv-loop ss service strings s pair name n at width i₀ i =
+    (i ≤ length s) × (restAt (pair .names) s 2 false i ≡ true)
+    × (reservedOk (gets pair ss service strings) width (take n (drop name s) ∷ []) (contentAt (pair .names) s at) ≡ reservedOk (gets pair ss service strings) width (take n (drop name s) ∷ []) (contentAt (pair .names) s i))
 
 abbrev μ-loop : tie.MeasureT-loop
-μ-loop strings names s at width i₀ i = length s - i
+μ-loop ss service strings s pair name n at width i₀ i = length s - i
 
 loop-holds : tie.Need-loop-holds Inv-loop μ-loop
 loop-holds c = (search needs, search needs, refl)
@@ -32,7 +35,7 @@ returns : tie.Need-returns Inv-loop μ-loop
 returns c = search (reserved-last, needs)
 
 whole-reg-requires : tie.Need-whole-reg-requires Inv-loop μ-loop
-whole-reg-requires c κs = (search (inner-within, needs), search needs)
+whole-reg-requires c κs = (search needs, (search needs, search (name-within, needs)), search (inner-within, needs), search needs)
 
 loop-less : tie.Need-loop-less Inv-loop μ-loop
 loop-less c = search (after-less, needs)

@@ -4,14 +4,14 @@ use borrow.Author.Needs.{needs}
 use Rattle.values.proofs.whole_reg.Statement.{statement}
 use Rattle.values.proofs.whole_reg.Tie as tie
 
-slice-aggregate-find-property : tie.Need-slice-aggregate-find-property
-slice-aggregate-find-property c = search needs
+slice-aggregate-get : tie.Need-slice-aggregate-get
+slice-aggregate-get c = search needs
 
-find-property-requires : tie.Need-find-property-requires
-find-property-requires c κs = search needs
+get-requires : tie.Need-get-requires
+get-requires c κs = search needs
 
-enum-known-found : tie.Need-enum-known-found
-enum-known-found c = search needs
+enum-known-got : tie.Need-enum-known-got
+enum-known-got c = search needs
 
 enum-told : tie.Need-enum-told
 enum-told c = search needs
@@ -29,9 +29,9 @@ pub whole-reg-spec : {M : Type 1} → statement M
 whole-reg-spec =
     tie.close
     (tie.spec
-    slice-aggregate-find-property
-    find-property-requires
-    enum-known-found
+    slice-aggregate-get
+    get-requires
+    enum-known-got
     enum-told
     returns
     rem-result

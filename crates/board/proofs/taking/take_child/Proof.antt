@@ -9,7 +9,7 @@ enum-told : tie.Need-enum-told
 enum-told c = search needs
 
 take-memory-requires : tie.Need-take-memory-requires
-take-memory-requires c κs = (search needs, search needs, search needs, search (child-memory, needs))
+take-memory-requires c κs = (search needs, search needs, search needs, search needs, search needs, search (child-memory, needs))
 
 enum-told-2 : tie.Need-enum-told-2
 enum-told-2 c = search needs

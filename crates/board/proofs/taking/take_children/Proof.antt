@@ -1,7 +1,5 @@
 -- `board::taking::take_children` meets its contract.
-use denote.Ref.{now}
-use native.Mathlib.Omega.{arith}
-use Prim.Native.Nat.{_+_, _-_, _≤_}
+use Prim.Native.Nat.{_-_, _≤_}
 use mathlib.Core.Path.{_≡_, refl}
 use mathlib.Core.Bool.{true, false}
 use lib.ListN.{length}
@@ -9,7 +7,7 @@ use Rattle.block.specs.Block.{current, good}
 use Rattle.tree.specs.Steps.{restAt, contentAt}
 use Rattle.intake.specs.Turns.{steps, inTurn}
 use Rattle.intake.proofs.Good.{turn-good}
-use Rattle.values.specs.Steps.{childrenOk}
+use Rattle.values.specs.Steps.{gets, childrenOk}
 use Rattle.board.specs.Steps.{width, childrenCommands}
 use Rattle.values.proofs.Children.{name-within, inner-within, after-within, after-less, child-goes, children-goes, child-holds, rest-holds}
 use Rattle.board.proofs.Passes.{children-done, children-refused, children-next}
@@ -18,10 +16,14 @@ use Rattle.board.proofs.taking.take_children.Statement.{statement}
 use Rattle.board.proofs.taking.take_children.Tie as tie
 
 abbrev Inv-loop : tie.InvT-loop
-Inv-loop block₀ strings names s cells at pass i₀ block i = (i ≤ length s) × (restAt names s 1 false i ≡ true) × (childrenOk strings (width cells) (contentAt names s i) ≡ true) × (length block ≡ length block₀) × (good current block ≡ true) × (inTurn (steps current (childrenCommands strings cells pass (contentAt names s at))) block₀ ≡ inTurn (steps current (childrenCommands strings cells pass (contentAt names s i))) block)
+Inv-loop block₀ ss service strings s pair cells at pass i₀ block i =
+    (i ≤ length s) × (restAt (pair .names) s 1 false i ≡ true) × (childrenOk (gets pair ss service strings) (width cells) (contentAt (pair .names) s i) ≡ true) × (length block ≡ length block₀)
+    × (good current block ≡ true)
+    × (inTurn (steps current (childrenCommands (gets pair ss service strings) cells pass (contentAt (pair .names) s at))) block₀
+    ≡ inTurn (steps current (childrenCommands (gets pair ss service strings) cells pass (contentAt (pair .names) s i))) block)
 
 abbrev μ-loop : tie.MeasureT-loop
-μ-loop block₀ strings names s cells at pass i₀ block i = length s - i
+μ-loop block₀ ss service strings s pair cells at pass i₀ block i = length s - i
 
 loop-holds : tie.Need-loop-holds Inv-loop μ-loop
 loop-holds c = (search needs, search needs, search needs, refl, search needs, refl)
@@ -41,22 +43,8 @@ same-length c = search needs
 returns : tie.Need-returns Inv-loop μ-loop
 returns c = search (children-done, needs)
 
-add-end : tie.Need-add-end Inv-loop μ-loop
-add-end c =
-    let w : c .before .next .given .0 .0 + c .before .next .given .0 .1 .0 ≤ length (now (c .before .before .before .before .before .before .before .before .args .s)) = search (name-within, needs) in
-    omega (arith, w)
-
-sub-take-child : tie.Need-sub-take-child Inv-loop μ-loop
-sub-take-child c = search needs
-
-part-take-child-start : tie.Need-part-take-child-start Inv-loop μ-loop
-part-take-child-start c = search needs
-
-part-take-child-end : tie.Need-part-take-child-end Inv-loop μ-loop
-part-take-child-end c = search (name-within, needs)
-
 take-child-requires : tie.Need-take-child-requires Inv-loop μ-loop
-take-child-requires c κs = (search needs, search needs, search (inner-within, needs), search (child-goes, needs), search (child-holds, needs))
+take-child-requires c κs = (search needs, search needs, search needs, search (name-within, needs), search (inner-within, needs), search (child-goes, needs), search (child-holds, needs))
 
 same-length-2 : tie.Need-same-length-2 Inv-loop μ-loop
 same-length-2 c = search needs
@@ -82,10 +70,6 @@ take-children-spec =
     enum-told
     same-length
     returns
-    add-end
-    sub-take-child
-    part-take-child-start
-    part-take-child-end
     take-child-requires
     same-length-2
     returns-2

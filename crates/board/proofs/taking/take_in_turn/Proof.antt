@@ -24,7 +24,8 @@ returns-2 : tie.Need-returns-2
 returns-2 c = search (list-refused, needs)
 
 take-children-requires-2 : tie.Need-take-children-requires-2
-take-children-requires-2 c κs = (search (list-good, needs), search needs, (search needs, search needs, search needs))
+take-children-requires-2 c κs =
+    (list-good _ _ (now (c .before .before .before .before .before .before .before .before .before .before .before .before .before .before .before .before .before .args .list)) _ _ _ _ (c .before .before .before .before .before .before .before .before .before .take-children .ensures) (c .before .before .before .before .before .before .if1 .left) _ _ (c .before .before .before .before .take-list .ensures) (c .before .before .before .before .before .before .before .before .before .before .before .before .before .before .before .before .before .pre .0), search needs, search needs, (search needs, search needs, search needs))
 
 same-length-3 : tie.Need-same-length-3
 same-length-3 c = search needs
@@ -34,7 +35,7 @@ returns-3 c = search (reservations-refused, needs)
 
 take-children-requires-3 : tie.Need-take-children-requires-3
 take-children-requires-3 c κs =
-    (reservations-good _ _ (now (c .before .before .before .before .before .before .before .before .before .before .before .before .before .before .before .before .before .before .before .before .args .list)) _ _ _ _ (c .before .before .before .before .before .before .before .before .before .before .before .before .before .before .take-children .ensures) (c .before .before .before .before .before .before .before .before .before .before .before .if1 .left) _ _ (c .before .before .before .before .before .before .before .before .before .take-list .ensures) (c .before .before .before .before .before .before .if2 .left) _ _ (c .before .before .before .before .take-children2 .ensures) (c .before .before .before .before .before .before .before .before .before .before .before .before .before .before .before .before .before .before .before .before .pre .0), search needs, (search needs, search needs, search needs))
+    (reservations-good _ _ (now (c .before .before .before .before .before .before .before .before .before .before .before .before .before .before .before .before .before .before .before .before .before .before .args .list)) _ _ _ _ (c .before .before .before .before .before .before .before .before .before .before .before .before .before .before .take-children .ensures) (c .before .before .before .before .before .before .before .before .before .before .before .if1 .left) _ _ (c .before .before .before .before .before .before .before .before .before .take-list .ensures) (c .before .before .before .before .before .before .if2 .left) _ _ (c .before .before .before .before .take-children2 .ensures) (c .before .before .before .before .before .before .before .before .before .before .before .before .before .before .before .before .before .before .before .before .before .before .pre .0), search needs, search needs, (search needs, search needs, search needs))
 
 same-length-4 : tie.Need-same-length-4
 same-length-4 c = search needs

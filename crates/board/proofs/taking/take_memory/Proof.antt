@@ -26,10 +26,10 @@ enum-told : tie.Need-enum-told
 enum-told c = search needs
 
 returns : tie.Need-returns
-returns c = search (id-there, needs)
+returns c = absurd (search (id-there, needs))
 
 take-reg-requires : tie.Need-take-reg-requires
-take-reg-requires c κs = (search needs, search (id-legal, needs), search needs, search needs)
+take-reg-requires c κs = (search needs, search (id-legal, needs), search needs, search needs, search needs, search needs)
 
 same-length : tie.Need-same-length
 same-length c = search needs

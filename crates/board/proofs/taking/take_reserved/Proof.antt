@@ -2,23 +2,28 @@
 use Prim.Native.Nat.{_-_, _≤_}
 use mathlib.Core.Path.{_≡_, refl}
 use mathlib.Core.Bool.{true, false}
-use lib.ListN.{length}
+use mathlib.Core.List.{[], _∷_}
+use lib.ListN.{length, drop, take}
 use Rattle.block.specs.Block.{current, good}
 use Rattle.tree.specs.Steps.{restAt, contentAt}
 use Rattle.intake.specs.Turns.{steps, inTurn}
 use Rattle.intake.proofs.Good.{turn-good}
+use Rattle.values.specs.Steps.{gets}
+use Rattle.values.proofs.Children.{name-within, inner-within, after-within, after-less, reserved-goes}
 use Rattle.board.specs.Steps.{reservedCommands}
-use Rattle.values.proofs.Children.{inner-within, after-within, after-less, reserved-goes}
 use Rattle.board.proofs.Passes.{reserved-done, reserved-refused, reserved-next}
 use borrow.Author.Needs.{needs}
 use Rattle.board.proofs.taking.take_reserved.Statement.{statement}
 use Rattle.board.proofs.taking.take_reserved.Tie as tie
 
 abbrev Inv-loop : tie.InvT-loop
-Inv-loop block₀ strings names s cells at marked i₀ block i = (i ≤ length s) × (restAt names s 2 false i ≡ true) × (length block ≡ length block₀) × (good current block ≡ true) × (inTurn (steps current (reservedCommands strings cells marked (contentAt names s at))) block₀ ≡ inTurn (steps current (reservedCommands strings cells marked (contentAt names s i))) block)
+Inv-loop block₀ ss service strings s pair cells name n at marked i₀ block i =
+    (i ≤ length s) × (restAt (pair .names) s 2 false i ≡ true) × (length block ≡ length block₀) × (good current block ≡ true)
+    × (inTurn (steps current (reservedCommands (gets pair ss service strings) cells marked (take n (drop name s) ∷ []) (contentAt (pair .names) s at))) block₀
+    ≡ inTurn (steps current (reservedCommands (gets pair ss service strings) cells marked (take n (drop name s) ∷ []) (contentAt (pair .names) s i))) block)
 
 abbrev μ-loop : tie.MeasureT-loop
-μ-loop block₀ strings names s cells at marked i₀ block i = length s - i
+μ-loop block₀ ss service strings s pair cells name n at marked i₀ block i = length s - i
 
 loop-holds : tie.Need-loop-holds Inv-loop μ-loop
 loop-holds c = (search needs, search needs, refl, search needs, refl)
@@ -39,7 +44,7 @@ returns : tie.Need-returns Inv-loop μ-loop
 returns c = search (reserved-done, needs)
 
 take-reservation-requires : tie.Need-take-reservation-requires Inv-loop μ-loop
-take-reservation-requires c κs = (search needs, search needs, search (inner-within, needs))
+take-reservation-requires c κs = (search needs, search needs, search needs, (search needs, search (name-within, needs)), search (inner-within, needs))
 
 same-length-2 : tie.Need-same-length-2 Inv-loop μ-loop
 same-length-2 c = search needs

@@ -14,7 +14,7 @@ slice-aggregate-copy-front : tie.Need-slice-aggregate-copy-front
 slice-aggregate-copy-front c = search needs
 
 copy-front-requires : tie.Need-copy-front-requires
-copy-front-requires c κs = (search needs, omega (arith, good-length current _ (c .before .before .before .before .before .before .pre .0)))
+copy-front-requires c κs = (search needs, omega (arith, good-length current _ (c .before .before .before .before .before .before .before .before .pre .0)))
 
 take-in-turn-requires : tie.Need-take-in-turn-requires
 take-in-turn-requires c κs = search needs
@@ -23,14 +23,14 @@ slice-aggregate-copy-front-2 : tie.Need-slice-aggregate-copy-front-2
 slice-aggregate-copy-front-2 c = search needs
 
 copy-front-requires-2 : tie.Need-copy-front-requires-2
-copy-front-requires-2 c κs = (omega (arith, good-length current _ (c .before .before .before .before .before .before .before .before .before .before .before .before .before .before .before .pre .0), c .before .before .before .before .before .take-in-turn .kept), search needs)
+copy-front-requires-2 c κs = (omega (arith, good-length current _ (c .before .before .before .before .before .before .before .before .before .before .before .before .before .before .before .before .before .pre .0), c .before .before .before .before .before .take-in-turn .kept), search needs)
 
 same-length : tie.Need-same-length
 same-length c = search needs
 
 returns : tie.Need-returns
 returns c =
-    put-all-back _ _ _ _ _ (c .before .before .before .before .before .before .before .before .before .before .before .before .before .before .before .before .before .before .pre .0) _ _ (c .before .before .before .before .before .before .before .before .take-in-turn .ensures) (c .before .before .before .before .before .if1 .taken) (replicate 15440 0) _ _ (length-replicate {A = ℕ} 15440 0) (c .before .before .before .before .before .before .before .before .before .before .before .copy-front .ensures) (c .before .before .copy-front2 .ensures)
+    put-all-back _ _ _ _ _ (c .before .before .before .before .before .before .before .before .before .before .before .before .before .before .before .before .before .before .before .before .pre .0) _ _ (c .before .before .before .before .before .before .before .before .take-in-turn .ensures) (c .before .before .before .before .before .if1 .taken) (replicate 15440 0) _ _ (length-replicate {A = ℕ} 15440 0) (c .before .before .before .before .before .before .before .before .before .before .before .copy-front .ensures) (c .before .before .copy-front2 .ensures)
 
 same-length-2 : tie.Need-same-length-2
 same-length-2 c = search needs

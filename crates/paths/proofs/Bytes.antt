@@ -1,0 +1,143 @@
+-- Paths in two parts, byte by byte, and a step of one. Assumes nothing.
+use Prim.Native.Nat.{ℕ, zero, suc, _+_, _-_, _≤_, _<_}
+use mathlib.Core.Path.{_≡_, refl, sym, ap, _∙_}
+use mathlib.Core.Bool.{Bool, true, false, cond, _&&_}
+use mathlib.Core.List.{List, [], _∷_, _++_}
+use native.Mathlib.Numerals.{add-one}
+use native.Mathlib.Omega.{arith}
+use lib.Dec.{eqb}
+use lib.ListN.{length, drop, take, getD, length-drop, length-take, length-append, List·getD-append}
+use lib.Seq.{drop-cons, getD-append-add}
+use borrow.Author.Tests.{eq-eqb, ne-eqb}
+use Rattle.paths.specs.Steps.{starts, wayOf}
+
+-- ---- a step of a path
+
+starts-short : (xs l : List ℕ) → length l < length xs → false ≡ starts xs l
+unfolding starts
+starts-short [] l h = absurd (omega arith)
+starts-short (x ∷ xs) [] h = refl
+starts-short (x ∷ xs) (y ∷ l) h = go (eqb x y) (starts-short xs l (omega arith))
+  where
+    go : (t : Bool) → false ≡ starts xs l → false ≡ t && starts xs l
+    go true e = e
+    go false e = refl
+
+module _ (p : List ℕ) (done : ℕ) (s : List ℕ) (at n : ℕ) (h : done ≤ length p) (g : at + n ≤ length s) where
+  name-length : length (take n (drop at s)) ≡ n
+  name-length = simp (length-take, length-drop) (omega arith)
+
+  pub step-short : length p - done ≤ n → false ≡ starts (47 ∷ take n (drop at s)) (drop done p)
+  step-short k = starts-short (47 ∷ take n (drop at s)) (drop done p) (omega (arith, name-length, length-drop done p))
+
+  module _ (k : n < length p - done) where
+    front : drop done p ≡ getD p done 0 ∷ drop (done + 1) p
+    front = let k′ : done < length p = omega arith in rw (drop-cons p done 0 k′, add-one) refl
+
+    pub step-other : (getD p done 0 ≡ 47 → ⊥) → false ≡ starts (47 ∷ take n (drop at s)) (drop done p)
+    unfolding starts
+    step-other e = rw (front, ne-eqb 47 (getD p done 0) (λ z. e (sym z))) refl
+
+-- ---- a path in two parts
+
+module _ (p q : List ℕ) where
+  way-two-is : wayOf p q true ≡ (47 ∷ p) ++ (47 ∷ q)
+  unfolding wayOf
+  way-two-is = refl
+
+  pub way-two : (two : Bool) → two ≡ true → length p + length q + 2 ≡ length (wayOf p q two)
+  unfolding wayOf
+  way-two two e = rw e (omega (arith, length-append p (47 ∷ q)))
+
+  pub way-one : (two : Bool) → two ≡ false → length p + 1 ≡ length (wayOf p q two)
+  unfolding wayOf
+  way-one two e = rw e (omega (arith, length-append p []))
+
+  pub byte-front : (two : Bool) (i : ℕ) → i ≡ 0 → 47 ≡ getD (wayOf p q two) i 0
+  unfolding wayOf
+  byte-front two i e = rw e refl
+
+  pub byte-first : (two : Bool) (i : ℕ) → (i ≡ 0 → ⊥) → i ≤ length p → getD p (i - 1) 0 ≡ getD (wayOf p q two) i 0
+  unfolding wayOf
+  byte-first two zero z h = absurd (z refl)
+  byte-first two (suc i) z h = let e : suc i - 1 ≡ i = omega arith in rw e (sym (List·getD-append p (cond two (47 ∷ q) []) 0 i (omega arith)))
+
+  module _ (two : Bool) (i : ℕ) (h : i < length (wayOf p q two)) (g : length p < i) where
+    two-there : two ≡ true
+    unfolding wayOf
+    two-there = go two h
+      where
+        go : (b : Bool) → i < length ((47 ∷ p) ++ cond b (47 ∷ q) []) → b ≡ true
+        go true k = refl
+        go false k = absurd (omega (arith, length-append p []))
+
+    tail-at : getD (wayOf p q two) i 0 ≡ getD (47 ∷ q) (i - length p - 1) 0
+    tail-at =
+        let e : i ≡ length (47 ∷ p) + (i - length p - 1) = omega arith in
+        rw (two-there, way-two-is) (ap (λ (x : ℕ). getD ((47 ∷ p) ++ (47 ∷ q)) x 0) e ∙ getD-append-add (47 ∷ p) (47 ∷ q) (i - length p - 1) 0)
+
+    pub byte-second : i - length p - 1 ≡ 0 → 47 ≡ getD (wayOf p q two) i 0
+    byte-second z = sym (tail-at ∙ rw z refl)
+
+    pub second-within : (i - length p - 1 ≡ 0 → ⊥) → i - length p - 1 - 1 < length q
+    second-within z = let w = rw two-there at h in omega (arith, way-two true refl)
+
+    pub byte-rest : (i - length p - 1 ≡ 0 → ⊥) → getD q (i - length p - 1 - 1) 0 ≡ getD (wayOf p q two) i 0
+    byte-rest z = let e : i - length p - 1 ≡ suc (i - length p - 1 - 1) = omega arith in sym (tail-at ∙ ap (λ (x : ℕ). getD (47 ∷ q) x 0) e)
+
+-- ---- a step of such a path, byte by byte
+
+module _ (w : List ℕ) (done : ℕ) (s : List ℕ) (at n : ℕ) (g : at + n ≤ length s) (k : n < length w - done) (sl : getD w done 0 ≡ 47) where
+  pub walk-start : starts (47 ∷ take n (drop at s)) (drop done w) ≡ starts (take (n - 0) (drop (at + 0) s)) (drop (done + 1 + 0) w)
+  unfolding starts
+  walk-start =
+      let k′ : done < length w = omega arith in
+      let a : n - 0 ≡ n = omega arith in
+      let b : at + 0 ≡ at = omega arith in
+      let c : done + 1 + 0 ≡ done + 1 = omega arith in
+      rw (a, b, c, drop-cons w done 0 k′, ← add-one done, sl) refl
+
+  module _ (j : ℕ) (inv : starts (47 ∷ take n (drop at s)) (drop done w) ≡ starts (take (n - j) (drop (at + j) s)) (drop (done + 1 + j) w)) where
+    pub walk-over : n ≤ j → true ≡ starts (47 ∷ take n (drop at s)) (drop done w)
+    unfolding starts
+    walk-over h = let e : n - j ≡ 0 = omega arith in sym (inv ∙ rw e refl)
+
+    module _ (h : j < n) where
+      at-byte : starts (47 ∷ take n (drop at s)) (drop done w) ≡ eqb (getD s (at + j) 0) (getD w (done + 1 + j) 0) && starts (take (n - (j + 1)) (drop (at + (j + 1)) s)) (drop (done + 1 + (j + 1)) w)
+      unfolding starts
+      at-byte =
+          let e : n - j ≡ suc (n - (j + 1)) = omega arith in
+          let x : at + j < length s = omega arith in
+          let y : done + 1 + j < length w = omega arith in
+          let u : suc (at + j) ≡ at + (j + 1) = omega arith in
+          let v : suc (done + 1 + j) ≡ done + 1 + (j + 1) = omega arith in
+          inv ∙ rw (e, drop-cons s (at + j) 0 x, drop-cons w (done + 1 + j) 0 y, u, v) refl
+
+      pub walk-differ : (getD w (done + 1 + j) 0 ≡ getD s (at + j) 0 → ⊥) → false ≡ starts (47 ∷ take n (drop at s)) (drop done w)
+      walk-differ z = sym (at-byte ∙ rw (ne-eqb (getD s (at + j) 0) (getD w (done + 1 + j) 0) (λ q. z (sym q))) refl)
+
+      pub walk-again : getD w (done + 1 + j) 0 ≡ getD s (at + j) 0 → starts (47 ∷ take n (drop at s)) (drop done w) ≡ starts (take (n - (j + 1)) (drop (at + (j + 1)) s)) (drop (done + 1 + (j + 1)) w)
+      walk-again z = at-byte ∙ rw (eq-eqb (getD s (at + j) 0) (getD w (done + 1 + j) 0) (sym z)) refl
+
+module _ (w : List ℕ) (done : ℕ) (s : List ℕ) (at n : ℕ) (h : done ≤ length w) (g : at + n ≤ length s) (len : ℕ) (el : len ≡ length w) where
+  pub way-short : len - done ≤ n → false ≡ starts (47 ∷ take n (drop at s)) (drop done w)
+  way-short k = step-short w done s at n h g (omega arith)
+
+  module _ (k : n < len - done) (x : ℕ) (ex : x ≡ getD w done 0) where
+    pub way-other : (x ≡ 47 → ⊥) → false ≡ starts (47 ∷ take n (drop at s)) (drop done w)
+    way-other z = step-other w done s at n h g (omega arith) (λ q. z (ex ∙ q))
+
+    module _ (sl : x ≡ 47) where
+      pub way-start : starts (47 ∷ take n (drop at s)) (drop done w) ≡ starts (take (n - 0) (drop (at + 0) s)) (drop (done + 1 + 0) w)
+      way-start = walk-start w done s at n g (omega arith) (sym ex ∙ sl)
+
+      module _ (j : ℕ) (inv : starts (47 ∷ take n (drop at s)) (drop done w) ≡ starts (take (n - j) (drop (at + j) s)) (drop (done + 1 + j) w)) where
+        pub way-over : n ≤ j → true ≡ starts (47 ∷ take n (drop at s)) (drop done w)
+        way-over m = walk-over w done s at n g (omega arith) (sym ex ∙ sl) j inv m
+
+        module _ (m : j < n) (y : ℕ) (ey : y ≡ getD w (done + 1 + j) 0) where
+          pub way-differ : (y ≡ getD s (at + j) 0 → ⊥) → false ≡ starts (47 ∷ take n (drop at s)) (drop done w)
+          way-differ z = walk-differ w done s at n g (omega arith) (sym ex ∙ sl) j inv m (λ q. z (ey ∙ q))
+
+          pub way-again : y ≡ getD s (at + j) 0 → starts (47 ∷ take n (drop at s)) (drop done w) ≡ starts (take (n - (j + 1)) (drop (at + (j + 1)) s)) (drop (done + 1 + (j + 1)) w)
+          way-again z = walk-again w done s at n g (omega arith) (sym ex ∙ sl) j inv m (sym ey ∙ z)

@@ -443,7 +443,7 @@ fn take_valued(
     BAD_TREE
 }
 
-// A board's tree that has the form, corrected by a service tree by its root.
+// A board's tree that has the form, corrected by a service tree whose root is `fixes`.
 fn take_formed(block: &mut [u8], ss: &[u8], service: &[u8], fixes: Root, board: &[u8]) -> u32
     requires { ⌜ (good current (now block) ≡ true) × (form (now board) ≡ true) × (MayCorrect fixes (now service)) ⌝ }
     ensures { λ r. ⌜ outcome r (now (block .exit)) ≡ takingBoard (corrected (now (ss .entry)) (contentAt (fixes .names) (now (service .entry)) (fixes .at)) (own (stringsOf (now (board .entry))))) (now (board .entry)) (now (block .entry)) ⌝ }

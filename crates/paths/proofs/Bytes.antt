@@ -11,8 +11,6 @@ use lib.Seq.{drop-cons, getD-append-add}
 use borrow.Author.Tests.{eq-eqb, ne-eqb}
 use Rattle.paths.specs.Steps.{starts, wayOf}
 
--- ---- a step of a path
-
 starts-short : (xs l : List ℕ) → length l < length xs → false ≡ starts xs l
 unfolding starts
 starts-short [] l h = absurd (omega arith)
@@ -22,21 +20,6 @@ starts-short (x ∷ xs) (y ∷ l) h = go (eqb x y) (starts-short xs l (omega ari
     go : (t : Bool) → false ≡ starts xs l → false ≡ t && starts xs l
     go true e = e
     go false e = refl
-
-module _ (p : List ℕ) (done : ℕ) (s : List ℕ) (at n : ℕ) (h : done ≤ length p) (g : at + n ≤ length s) where
-  name-length : length (take n (drop at s)) ≡ n
-  name-length = simp (length-take, length-drop) (omega arith)
-
-  pub step-short : length p - done ≤ n → false ≡ starts (47 ∷ take n (drop at s)) (drop done p)
-  step-short k = starts-short (47 ∷ take n (drop at s)) (drop done p) (omega (arith, name-length, length-drop done p))
-
-  module _ (k : n < length p - done) where
-    front : drop done p ≡ getD p done 0 ∷ drop (done + 1) p
-    front = let k′ : done < length p = omega arith in rw (drop-cons p done 0 k′, add-one) refl
-
-    pub step-other : (getD p done 0 ≡ 47 → ⊥) → false ≡ starts (47 ∷ take n (drop at s)) (drop done p)
-    unfolding starts
-    step-other e = rw (front, ne-eqb 47 (getD p done 0) (λ z. e (sym z))) refl
 
 -- ---- a path in two parts
 
@@ -87,57 +70,49 @@ module _ (p q : List ℕ) where
 
 -- ---- a step of such a path, byte by byte
 
-module _ (w : List ℕ) (done : ℕ) (s : List ℕ) (at n : ℕ) (g : at + n ≤ length s) (k : n < length w - done) (sl : getD w done 0 ≡ 47) where
-  pub walk-start : starts (47 ∷ take n (drop at s)) (drop done w) ≡ starts (take (n - 0) (drop (at + 0) s)) (drop (done + 1 + 0) w)
-  unfolding starts
-  walk-start =
-      let k′ : done < length w = omega arith in
-      let a : n - 0 ≡ n = omega arith in
-      let b : at + 0 ≡ at = omega arith in
-      let c : done + 1 + 0 ≡ done + 1 = omega arith in
-      rw (a, b, c, drop-cons w done 0 k′, ← add-one done, sl) refl
-
-  module _ (j : ℕ) (inv : starts (47 ∷ take n (drop at s)) (drop done w) ≡ starts (take (n - j) (drop (at + j) s)) (drop (done + 1 + j) w)) where
-    pub walk-over : n ≤ j → true ≡ starts (47 ∷ take n (drop at s)) (drop done w)
-    unfolding starts
-    walk-over h = let e : n - j ≡ 0 = omega arith in sym (inv ∙ rw e refl)
-
-    module _ (h : j < n) where
-      at-byte : starts (47 ∷ take n (drop at s)) (drop done w) ≡ eqb (getD s (at + j) 0) (getD w (done + 1 + j) 0) && starts (take (n - (j + 1)) (drop (at + (j + 1)) s)) (drop (done + 1 + (j + 1)) w)
-      unfolding starts
-      at-byte =
-          let e : n - j ≡ suc (n - (j + 1)) = omega arith in
-          let x : at + j < length s = omega arith in
-          let y : done + 1 + j < length w = omega arith in
-          let u : suc (at + j) ≡ at + (j + 1) = omega arith in
-          let v : suc (done + 1 + j) ≡ done + 1 + (j + 1) = omega arith in
-          inv ∙ rw (e, drop-cons s (at + j) 0 x, drop-cons w (done + 1 + j) 0 y, u, v) refl
-
-      pub walk-differ : (getD w (done + 1 + j) 0 ≡ getD s (at + j) 0 → ⊥) → false ≡ starts (47 ∷ take n (drop at s)) (drop done w)
-      walk-differ z = sym (at-byte ∙ rw (ne-eqb (getD s (at + j) 0) (getD w (done + 1 + j) 0) (λ q. z (sym q))) refl)
-
-      pub walk-again : getD w (done + 1 + j) 0 ≡ getD s (at + j) 0 → starts (47 ∷ take n (drop at s)) (drop done w) ≡ starts (take (n - (j + 1)) (drop (at + (j + 1)) s)) (drop (done + 1 + (j + 1)) w)
-      walk-again z = at-byte ∙ rw (eq-eqb (getD s (at + j) 0) (getD w (done + 1 + j) 0) (sym z)) refl
-
 module _ (w : List ℕ) (done : ℕ) (s : List ℕ) (at n : ℕ) (h : done ≤ length w) (g : at + n ≤ length s) (len : ℕ) (el : len ≡ length w) where
   pub way-short : len - done ≤ n → false ≡ starts (47 ∷ take n (drop at s)) (drop done w)
-  way-short k = step-short w done s at n h g (omega arith)
+  way-short k =
+      let m : length (take n (drop at s)) ≡ n = simp (length-take, length-drop) (omega arith) in
+      starts-short (47 ∷ take n (drop at s)) (drop done w) (omega (arith, m, length-drop done w))
 
   module _ (k : n < len - done) (x : ℕ) (ex : x ≡ getD w done 0) where
+    front : drop done w ≡ x ∷ drop (done + 1) w
+    front = let k′ : done < length w = omega arith in rw (drop-cons w done 0 k′, add-one, ← ex) refl
+
     pub way-other : (x ≡ 47 → ⊥) → false ≡ starts (47 ∷ take n (drop at s)) (drop done w)
-    way-other z = step-other w done s at n h g (omega arith) (λ q. z (ex ∙ q))
+    unfolding starts
+    way-other z = rw (front, ne-eqb 47 x (λ q. z (sym q))) refl
 
     module _ (sl : x ≡ 47) where
       pub way-start : starts (47 ∷ take n (drop at s)) (drop done w) ≡ starts (take (n - 0) (drop (at + 0) s)) (drop (done + 1 + 0) w)
-      way-start = walk-start w done s at n g (omega arith) (sym ex ∙ sl)
+      unfolding starts
+      way-start =
+          let a : n - 0 ≡ n = omega arith in
+          let b : at + 0 ≡ at = omega arith in
+          let c : done + 1 + 0 ≡ done + 1 = omega arith in
+          rw (a, b, c, front, sl) refl
 
       module _ (j : ℕ) (inv : starts (47 ∷ take n (drop at s)) (drop done w) ≡ starts (take (n - j) (drop (at + j) s)) (drop (done + 1 + j) w)) where
         pub way-over : n ≤ j → true ≡ starts (47 ∷ take n (drop at s)) (drop done w)
-        way-over m = walk-over w done s at n g (omega arith) (sym ex ∙ sl) j inv m
+        unfolding starts
+        way-over m = let e : n - j ≡ 0 = omega arith in sym (inv ∙ rw e refl)
 
         module _ (m : j < n) (y : ℕ) (ey : y ≡ getD w (done + 1 + j) 0) where
-          pub way-differ : (y ≡ getD s (at + j) 0 → ⊥) → false ≡ starts (47 ∷ take n (drop at s)) (drop done w)
-          way-differ z = walk-differ w done s at n g (omega arith) (sym ex ∙ sl) j inv m (λ q. z (ey ∙ q))
+          at-byte : starts (47 ∷ take n (drop at s)) (drop done w)
+              ≡ eqb (getD s (at + j) 0) y && starts (take (n - (j + 1)) (drop (at + (j + 1)) s)) (drop (done + 1 + (j + 1)) w)
+          unfolding starts
+          at-byte =
+              let e : n - j ≡ suc (n - (j + 1)) = omega arith in
+              let a : at + j < length s = omega arith in
+              let b : done + 1 + j < length w = omega arith in
+              let u : suc (at + j) ≡ at + (j + 1) = omega arith in
+              let v : suc (done + 1 + j) ≡ done + 1 + (j + 1) = omega arith in
+              inv ∙ rw (e, drop-cons s (at + j) 0 a, drop-cons w (done + 1 + j) 0 b, u, v, ← ey) refl
 
-          pub way-again : y ≡ getD s (at + j) 0 → starts (47 ∷ take n (drop at s)) (drop done w) ≡ starts (take (n - (j + 1)) (drop (at + (j + 1)) s)) (drop (done + 1 + (j + 1)) w)
-          way-again z = walk-again w done s at n g (omega arith) (sym ex ∙ sl) j inv m (sym ey ∙ z)
+          pub way-differ : (y ≡ getD s (at + j) 0 → ⊥) → false ≡ starts (47 ∷ take n (drop at s)) (drop done w)
+          way-differ z = sym (at-byte ∙ rw (ne-eqb (getD s (at + j) 0) y (λ q. z (sym q))) refl)
+
+          pub way-again : y ≡ getD s (at + j) 0
+              → starts (47 ∷ take n (drop at s)) (drop done w) ≡ starts (take (n - (j + 1)) (drop (at + (j + 1)) s)) (drop (done + 1 + (j + 1)) w)
+          way-again z = at-byte ∙ rw (eq-eqb (getD s (at + j) 0) y (sym z)) refl

@@ -16,7 +16,7 @@ use Rattle.tree.specs.Places.{placed, located}
 use Rattle.tree.specs.Steps.{shape, StepOf, restAt, contentsAt, strip}
 use Rattle.tree.specs.declared.tokens.Token.the-variants.{Begin, End, Property, Nop, Stop, Broken}
 use Rattle.tree.specs.declared.tokens.Step.{Step}
-use Rattle.tree.proofs.TokenCases.{property-is, begin-is}
+use Rattle.tree.proofs.TokenCases.{IsProperty, IsBegin, property-is, begin-is}
 
 -- ---- one token behind the other
 
@@ -107,26 +107,45 @@ front-none names l at h = rw (tokens-none names l at h) refl
 -- ---- at a token
 
 module _ (names : ℕ) (l : List ℕ) (at : ℕ) (h : at < length l) (r : Step) (s : StepOf (token names (drop at l)) l at r) where
+  -- the token there, by its numbers
+  there-end : r .token ≡ End → token names (drop at l) ≡ end
+  there-end e = end-is (token names (drop at l)) (sym e ∙ s .is)
+
+  there-nop : r .token ≡ Nop → token names (drop at l) ≡ nop
+  there-nop e = nop-is (token names (drop at l)) (sym e ∙ s .is)
+
+  there-stop : r .token ≡ Stop → token names (drop at l) ≡ stop
+  there-stop e = stop-is (token names (drop at l)) (sym e ∙ s .is)
+
+  there-broken : r .token ≡ Broken → token names (drop at l) ≡ broken
+  there-broken e = broken-is (token names (drop at l)) (sym e ∙ s .is)
+
+  there-property : (m k : ℕ) → r .token ≡ Property m k → IsProperty (token names (drop at l)) m k (drop at l)
+  there-property m k e = property-is names (drop at l) m k (sym e ∙ s .is)
+
+  there-begin : (k : ℕ) → r .token ≡ Begin k → IsBegin (token names (drop at l)) k (drop at l)
+  there-begin k e = begin-is names (drop at l) k (sym e ∙ s .is)
+
   tokens-at : (x : Token) → token names (drop at l) ≡ x → tokens names (drop at l) ≡ x ∷ tokens names (drop (r .next) l)
   tokens-at x e = tokens-next names (drop at l) (omega (arith, length-drop at l)) ∙ rw (← s .rest, e) refl
 
   at-end : r .token ≡ End → tokens names (drop at l) ≡ end ∷ tokens names (drop (r .next) l)
-  at-end e = tokens-at end (end-is (token names (drop at l)) (sym e ∙ s .is))
+  at-end e = tokens-at end (there-end e)
 
   at-nop : r .token ≡ Nop → tokens names (drop at l) ≡ nop ∷ tokens names (drop (r .next) l)
-  at-nop e = tokens-at nop (nop-is (token names (drop at l)) (sym e ∙ s .is))
+  at-nop e = tokens-at nop (there-nop e)
 
   at-stop : r .token ≡ Stop → tokens names (drop at l) ≡ stop ∷ tokens names (drop (r .next) l)
-  at-stop e = tokens-at stop (stop-is (token names (drop at l)) (sym e ∙ s .is))
+  at-stop e = tokens-at stop (there-stop e)
 
   at-broken : r .token ≡ Broken → tokens names (drop at l) ≡ broken ∷ tokens names (drop (r .next) l)
-  at-broken e = tokens-at broken (broken-is (token names (drop at l)) (sym e ∙ s .is))
+  at-broken e = tokens-at broken (there-broken e)
 
   at-property : (m k : ℕ) → r .token ≡ Property m k → tokens names (drop at l) ≡ property m (take k (drop (at + 12) l)) ∷ tokens names (drop (r .next) l)
-  at-property m k e = rw (← drop-drop 12 at l) (tokens-at (property m (take k (drop 12 (drop at l)))) (property-is names (drop at l) m k (sym e ∙ s .is) .is))
+  at-property m k e = rw (← drop-drop 12 at l) (tokens-at (property m (take k (drop 12 (drop at l)))) (there-property m k e .is))
 
   at-begin : (k : ℕ) → r .token ≡ Begin k → tokens names (drop at l) ≡ begin (take k (drop (at + 4) l)) ∷ tokens names (drop (r .next) l)
-  at-begin k e = rw (← drop-drop 4 at l) (tokens-at (begin (take k (drop 4 (drop at l)))) (begin-is names (drop at l) k (sym e ∙ s .is) .is))
+  at-begin k e = rw (← drop-drop 4 at l) (tokens-at (begin (take k (drop 4 (drop at l)))) (there-begin k e .is))
 
   -- ---- and each value by where it stands
 
@@ -148,32 +167,32 @@ module _ (names : ℕ) (l : List ℕ) (at : ℕ) (h : at < length l) (r : Step) 
   places-at x e = ap (λ (ts : List Token). located at ts) (tokens-at x e) ∙ ap (λ (ts : List Token). placed at x ∷ ts) (places-next x e)
 
   places-end : r .token ≡ End → located at (tokens names (drop at l)) ≡ end ∷ located (r .next) (tokens names (drop (r .next) l))
-  places-end e = places-at end (end-is (token names (drop at l)) (sym e ∙ s .is))
+  places-end e = places-at end (there-end e)
 
   places-nop : r .token ≡ Nop → located at (tokens names (drop at l)) ≡ nop ∷ located (r .next) (tokens names (drop (r .next) l))
-  places-nop e = places-at nop (nop-is (token names (drop at l)) (sym e ∙ s .is))
+  places-nop e = places-at nop (there-nop e)
 
   places-stop : r .token ≡ Stop → located at (tokens names (drop at l)) ≡ stop ∷ located (r .next) (tokens names (drop (r .next) l))
-  places-stop e = places-at stop (stop-is (token names (drop at l)) (sym e ∙ s .is))
+  places-stop e = places-at stop (there-stop e)
 
   places-broken : r .token ≡ Broken → located at (tokens names (drop at l)) ≡ broken ∷ located (r .next) (tokens names (drop (r .next) l))
-  places-broken e = places-at broken (broken-is (token names (drop at l)) (sym e ∙ s .is))
+  places-broken e = places-at broken (there-broken e)
 
   pub property-within : (m k : ℕ) → r .token ≡ Property m k → at + 12 + k ≤ length l
-  property-within m k e = omega (arith, property-is names (drop at l) m k (sym e ∙ s .is) .within, length-drop at l)
+  property-within m k e = omega (arith, there-property m k e .within, length-drop at l)
 
   pub begin-within : (k : ℕ) → r .token ≡ Begin k → at + 4 + k ≤ length l
-  begin-within k e = omega (arith, begin-is names (drop at l) k (sym e ∙ s .is) .within, length-drop at l)
+  begin-within k e = omega (arith, there-begin k e .within, length-drop at l)
 
   places-property : (m k : ℕ) → r .token ≡ Property m k
       → located at (tokens names (drop at l)) ≡ property m ((at + 12) ∷ k ∷ []) ∷ located (r .next) (tokens names (drop (r .next) l))
   places-property m k e =
       let n : length (take k (drop 12 (drop at l))) ≡ k = simp (length-take, length-drop) (omega (arith, property-within m k e)) in
-      rw (← n) (places-at (property m (take k (drop 12 (drop at l)))) (property-is names (drop at l) m k (sym e ∙ s .is) .is))
+      rw (← n) (places-at (property m (take k (drop 12 (drop at l)))) (there-property m k e .is))
 
   places-begin : (k : ℕ) → r .token ≡ Begin k
       → located at (tokens names (drop at l)) ≡ begin (take k (drop (at + 4) l)) ∷ located (r .next) (tokens names (drop (r .next) l))
-  places-begin k e = rw (← drop-drop 4 at l) (places-at (begin (take k (drop 4 (drop at l)))) (begin-is names (drop at l) k (sym e ∙ s .is) .is))
+  places-begin k e = rw (← drop-drop 4 at l) (places-at (begin (take k (drop 4 (drop at l)))) (there-begin k e .is))
 
   -- ---- what may follow, with n nodes open
 

@@ -27,15 +27,15 @@ module _ (l : List ℕ) where
   whole-name : (a n : ℕ) → take (a + n - a) (drop a l) ≡ take n (drop a l)
   whole-name a n = let e : a + n - a ≡ n = omega arith in rw e refl
 
-  pub path-top : (way : Way) → way ≡ Top → wayOf (take (0 - 0) (drop 0 l)) (take (0 - 0) (drop 0 l)) false ≡ path (wayAt l way)
+  path-top : (way : Way) → way ≡ Top → wayOf (take (0 - 0) (drop 0 l)) (take (0 - 0) (drop 0 l)) false ≡ path (wayAt l way)
   unfolding wayOf path
   path-top way e = rw e refl
 
-  pub path-child : (way : Way) (a n : ℕ) → way ≡ Child a n → wayOf (take (a + n - a) (drop a l)) (take (0 - 0) (drop 0 l)) false ≡ path (wayAt l way)
+  path-child : (way : Way) (a n : ℕ) → way ≡ Child a n → wayOf (take (a + n - a) (drop a l)) (take (0 - 0) (drop 0 l)) false ≡ path (wayAt l way)
   unfolding wayOf path steps
   path-child way a n e = rw (e, whole-name a n) refl
 
-  pub path-below : (way : Way) (a n b m : ℕ) → way ≡ Below a n b m
+  path-below : (way : Way) (a n b m : ℕ) → way ≡ Below a n b m
       → wayOf (take (a + n - a) (drop a l)) (take (b + m - b) (drop b l)) true ≡ path (wayAt l way)
   unfolding wayOf path steps
   path-below way a n b m e = rw (e, whole-name a n, whole-name b m, append-nil (47 ∷ take m (drop b l))) refl

@@ -25,15 +25,16 @@ use Rattle.values.specs.declared.Got.the-variants as v
 
 -- ---- nodes by where they stand
 
--- a service tree's structure block by its root, or none
+-- a service tree's structure block, with its root, or no bytes
 pub record MayCorrect (r : Root) (l : List ℕ) : Type 0 where
   pub may : (length l ≡ 0 → ⊥) → InRoot r l
 
--- that of the service tree, and the board's, no longer than a tree's can be
+-- what is read: the service tree's structure block, and the board's, which is shorter than 2^32
 pub record Sources (pair : Pair) (service l : List ℕ) : Type 0 where
   pub correct : MayCorrect (pair .service) service
   pub short : length l < 4294967296
 
+-- the names on the way to a node
 abbrev pub wayAt : List ℕ → Way → List (List ℕ)
 wayAt l Top = []
 wayAt l (Child a n) = take n (drop a l) ∷ []

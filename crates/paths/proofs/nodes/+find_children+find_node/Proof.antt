@@ -169,7 +169,7 @@ find-children-returns : (t : ℕ) → find-children-lts.Need-returns (
   read-node-reads.Asked,
   read-node-reads.Learnt,
 ) (find-children-at t) find-children.Post find-children-Inv-loop find-children-μ-loop
-find-children-returns t c = λ here. search (look-over, look-end, look-deep, look-property, look-stop, look-broken, off-refused, on-hit, on-bad, needs)
+find-children-returns t c = λ here. search (look-end, needs)
 
 find-children-enum-known-token : (t : ℕ) → find-children-lts.Need-enum-known-token (
   way-length-reads.Asked,
@@ -197,7 +197,7 @@ find-children-returns-2 : (t : ℕ) → find-children-lts.Need-returns-2 (
   read-node-reads.Asked,
   read-node-reads.Learnt,
 ) (find-children-at t) find-children.Post find-children-Inv-loop find-children-μ-loop
-find-children-returns-2 t c = λ here. search (look-over, look-end, look-deep, look-property, look-stop, look-broken, off-refused, on-hit, on-bad, needs)
+find-children-returns-2 t c = λ here. search (look-deep, needs)
 
 find-children-add-goes-on : (t : ℕ) → find-children-lts.Need-add-goes-on (
   way-length-reads.Asked,
@@ -453,7 +453,7 @@ find-children-returns-5 : (t : ℕ) → find-children-lts.Need-returns-5 (
   read-node-reads.Asked,
   read-node-reads.Learnt,
 ) (find-children-at t) find-children.Post find-children-Inv-loop find-children-μ-loop
-find-children-returns-5 t c = λ here. search (look-over, look-end, look-deep, look-property, look-stop, look-broken, off-refused, on-hit, on-bad, needs)
+find-children-returns-5 t c = λ here. search (off-refused, needs)
 
 find-children-loop-less-3 : (t : ℕ) → find-children-lts.Need-loop-less-3 (
   way-length-reads.Asked,
@@ -509,7 +509,7 @@ find-children-returns-6 : (t : ℕ) → find-children-lts.Need-returns-6 (
   read-node-reads.Asked,
   read-node-reads.Learnt,
 ) (find-children-at t) find-children.Post find-children-Inv-loop find-children-μ-loop
-find-children-returns-6 t c = λ here. search (look-over, look-end, look-deep, look-property, look-stop, look-broken, off-refused, on-hit, on-bad, needs)
+find-children-returns-6 t c = λ here. search (look-property, needs)
 
 find-children-enum-told-6 : (t : ℕ) → find-children-lts.Need-enum-told-6 (
   way-length-reads.Asked,
@@ -537,7 +537,7 @@ find-children-returns-7 : (t : ℕ) → find-children-lts.Need-returns-7 (
   read-node-reads.Asked,
   read-node-reads.Learnt,
 ) (find-children-at t) find-children.Post find-children-Inv-loop find-children-μ-loop
-find-children-returns-7 t c = λ here. search (look-over, look-end, look-deep, look-property, look-stop, look-broken, off-refused, on-hit, on-bad, needs)
+find-children-returns-7 t c = λ here. search (look-stop, needs)
 
 find-children-enum-told-7 : (t : ℕ) → find-children-lts.Need-enum-told-7 (
   way-length-reads.Asked,
@@ -565,7 +565,7 @@ find-children-returns-8 : (t : ℕ) → find-children-lts.Need-returns-8 (
   read-node-reads.Asked,
   read-node-reads.Learnt,
 ) (find-children-at t) find-children.Post find-children-Inv-loop find-children-μ-loop
-find-children-returns-8 t c = λ here. search (look-over, look-end, look-deep, look-property, look-stop, look-broken, off-refused, on-hit, on-bad, needs)
+find-children-returns-8 t c = λ here. search (look-broken, needs)
 
 find-children-returns-9 : (t : ℕ) → find-children-lts.Need-returns-9 (
   way-length-reads.Asked,
@@ -579,7 +579,7 @@ find-children-returns-9 : (t : ℕ) → find-children-lts.Need-returns-9 (
   read-node-reads.Asked,
   read-node-reads.Learnt,
 ) (find-children-at t) find-children.Post find-children-Inv-loop find-children-μ-loop
-find-children-returns-9 t c = λ here. search (look-over, look-end, look-deep, look-property, look-stop, look-broken, off-refused, on-hit, on-bad, needs)
+find-children-returns-9 t c = λ here. search (look-over, needs)
 
 find-node-skip-properties-requires : (t : ℕ) → find-node-lts.Need-skip-properties-requires (
   skip-properties-reads.Asked,

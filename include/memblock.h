@@ -1,7 +1,8 @@
 /* Memory tables before the kernel: the regions of memory present and of memory taken, in a block that boot code lends.
  *
  * Every function takes any numbers and any bytes, and answers one of the numbers below; the caller checks nothing first.
- * A refusal leaves the block as lent, byte for byte, and a slip of 16 bytes all zero; a slip of another length stays as lent.
+ * A refusal leaves the block as lent, byte for byte, a buffer for pieces too, and a slip of 16 bytes all zero; a slip of another length
+ * stays as lent.
  *
  * Lending. A pointer is to as many bytes as the length after it says, and is never null. Any alignment will do. A buffer that
  * a call may write shares no byte with another buffer of that call. The block's address is nowhere kept: it may be moved or copied.
@@ -77,8 +78,20 @@ extern "C" {
 #define MEMBLOCK_SLIP_LENGTH 16
 #define MEMBLOCK_SLIP_BASE_AT 0         /* searches */
 #define MEMBLOCK_SLIP_END_AT 8          /* the first address past the free run that holds the base */
+#define MEMBLOCK_SLIP_COUNT_AT 0        /* pages: how many pieces were written */
+#define MEMBLOCK_SLIP_NEXT_PAGE_AT 8    /* where the next piece begins; MEMBLOCK_PAGES where none is left */
 #define MEMBLOCK_SLIP_OFFSET_AT 0       /* lookup: where the value begins, from the first byte of its tree */
 #define MEMBLOCK_SLIP_VALUE_LENGTH_AT 8 /* how many bytes it has */
+
+/* Pages. Page n is the addresses from n * MEMBLOCK_PAGE_SIZE up to, not including, (n + 1) * MEMBLOCK_PAGE_SIZE. */
+#define MEMBLOCK_PAGE_SIZE 4096
+#define MEMBLOCK_PAGES UINT64_C(0x10000000000000) /* one more than the last page's number */
+
+/* A piece: 2^order pages, little-endian, offsets within it. */
+#define MEMBLOCK_PIECE_LENGTH 12
+#define MEMBLOCK_PIECE_PAGE_AT 0  /* u64: its first page, a multiple of 2^order */
+#define MEMBLOCK_PIECE_ORDER_AT 8 /* u32 */
+#define MEMBLOCK_LARGEST_ORDER 10
 
 /* An E820 report: entries, little-endian, offsets within one. */
 #define MEMBLOCK_REPORT_ENTRY_LENGTH 20
@@ -161,6 +174,7 @@ extern "C" {
 #define MEMBLOCK_STACK_NEXT_FREE 384
 #define MEMBLOCK_STACK_FIND 576
 #define MEMBLOCK_STACK_ALLOCATE 576
+#define MEMBLOCK_STACK_PAGES 384
 #define MEMBLOCK_STACK_INTAKE_E820 6912
 #define MEMBLOCK_STACK_INTAKE_TREE 21056
 #define MEMBLOCK_STACK_INTAKE_TREES 27904
@@ -225,6 +239,24 @@ uint32_t memblock_find(const uint8_t *block, size_t length, uint64_t size, uint6
  * is no second try at another address. */
 uint32_t memblock_allocate(uint8_t *block, size_t length, uint64_t size, uint64_t alignment, uint64_t start, uint64_t end,
                            uint32_t node, uint32_t wish, uint8_t *slip, size_t slip_length);
+
+/* Free pages. */
+
+/* Writes the free memory as pieces, for the kernel's page allocator. Of each free run, whatever its node, hotplug or mirror, the whole
+ * pages are cut from the bottom: each time the largest piece, of order 0 to MEMBLOCK_LARGEST_ORDER, whose first page is a multiple of its
+ * size and which fits in what is left of the run. Page 0 counts like any other; limit, direction and image end do not matter. A page that
+ * lies across two runs is in no piece. The block is not written: nothing is taken by this.
+ *
+ * Of all pieces, in rising order, the buffer gets those that begin at page from or above, MEMBLOCK_PIECE_LENGTH bytes each, as many as
+ * fit; its bytes after the last one stay as lent. Slip: how many these are, and the page where the next one begins, MEMBLOCK_PAGES where
+ * none is left. Begin at page 0 and name the page last answered until that is MEMBLOCK_PAGES: on an unchanged block, with buffers of a
+ * piece or more, this gives every whole page of every free run once, and the same pieces for buffers of any lengths. A piece that begins
+ * below from is passed over whole, also where from is inside it. A from of MEMBLOCK_PAGES or above gets no piece, and none is left; a
+ * buffer shorter than a piece gets none, and the slip says where the first begins. That there is no free page is no refusal.
+ *
+ * The buffer shares no byte with the block or the slip. Answers 0, 8 or 1; at 8 and 1 the buffer stays as lent. */
+uint32_t memblock_pages(const uint8_t *block, size_t length, uint64_t from, uint8_t *buffer, size_t buffer_length, uint8_t *slip,
+                        size_t slip_length);
 
 /* Reports. */
 

@@ -11,7 +11,7 @@
 use std::path::{Path, PathBuf};
 use std::process::Command;
 
-const FUNCTIONS: [&str; 17] = [
+const FUNCTIONS: [&str; 18] = [
     "memblock_fresh",
     "memblock_set",
     SET_IMAGE_END,
@@ -25,6 +25,7 @@ const FUNCTIONS: [&str; 17] = [
     "memblock_next_free",
     "memblock_find",
     "memblock_allocate",
+    PAGES,
     "memblock_intake_e820",
     INTAKE_TREE,
     INTAKE_TREES,
@@ -40,6 +41,9 @@ const INTAKE_TREE: &str = "memblock_intake_tree";
 /// The functions that an archive from before request E9 does not have.
 const INTAKE_TREES: &str = "memblock_intake_trees";
 const LOOKUP: &str = "memblock_lookup";
+
+/// The function that an archive from before request E14 does not have.
+const PAGES: &str = "memblock_pages";
 
 /// Before the names of the functions of the archive that BENCH_BEFORE names.
 const BEFORE: &str = "before_";
@@ -65,6 +69,9 @@ fn main() {
     let mut text = std::fs::read_to_string(library).expect("it stands beside build.rs");
     if !defines(&before, SET_IMAGE_END) {
         text = without_image_end(&text);
+    }
+    if !defines(&before, PAGES) {
+        text = without_pages(&text);
     }
     if !defines(&before, INTAKE_TREES) || !defines(&before, LOOKUP) {
         text = without_pairs(&text);
@@ -126,8 +133,24 @@ fn without_tree(text: &str) -> String {
 
 /// The text without the functions for a pair of trees: nothing calls them.
 fn without_pairs(text: &str) -> String {
+    without(text, &[INTAKE_TREES, LOOKUP])
+        .replace("PAIRS: bool = true", "PAIRS: bool = false")
+        .replace("Call::IntakeTrees(board, service)", "Call::IntakeTrees(..)")
+        .replace(
+            "Call::Lookup(service, board, path, name)",
+            "Call::Lookup(..)",
+        )
+}
+
+/// The text without the function for pages: nothing calls it.
+fn without_pages(text: &str) -> String {
+    without(text, &[PAGES]).replace("PAGES: bool = true", "PAGES: bool = false")
+}
+
+/// The text without functions: neither declared nor called.
+fn without(text: &str, names: &[&str]) -> String {
     let mut text = text.to_string();
-    for name in [INTAKE_TREES, LOOKUP] {
+    for name in names {
         let declared = text.find(&format!("fn {name}(")).expect("it is declared");
         let end = text[declared..].find(';').expect("it ends");
         text.replace_range(declared..=declared + end, "");
@@ -139,14 +162,9 @@ fn without_pairs(text: &str) -> String {
             letter == ')' && open == 0
         });
         let close = called + close.expect("it closes");
-        text.replace_range(called..=close, "unreachable!(\"no function for pairs\")");
+        text.replace_range(called..=close, "unreachable!(\"no such function\")");
     }
-    text.replace("PAIRS: bool = true", "PAIRS: bool = false")
-        .replace("Call::IntakeTrees(board, service)", "Call::IntakeTrees(..)")
-        .replace(
-            "Call::Lookup(service, board, path, name)",
-            "Call::Lookup(..)",
-        )
+    text
 }
 
 /// Whether an archive defines a function.

@@ -1,9 +1,10 @@
 /* A boot: the machine's memory map taken in as an E820 report and as a flattened tree, with corrections of a service tree too, what is in
- * use reserved, memory marked, allocations in both directions, bottom-up above the image and the other way, each kind of refusal.
+ * use reserved, memory marked, allocations in both directions, bottom-up above the image and the other way, each kind of refusal, and at
+ * the end the free pages handed over.
  *
  * Writes a line for each call, with its numbers, the number answered, a sum over the block's bytes and the slip, or a sum over the
- * bytes of the report, the trees or the old block; at the end both tables. tests/transcript replays the lines on the second program. Runs
- * freestanding and hosted. */
+ * bytes of the report, the trees, the old block or the buffer for pieces; at the end both tables. tests/transcript replays the lines on
+ * the second program. Runs freestanding and hosted. */
 #include "boot.h"
 #include "memblock.h"
 
@@ -50,6 +51,12 @@ static size_t tree_length;
 #define SERVICE_MOST KIB(2)
 static uint8_t service[SERVICE_MOST + GUARD];
 static size_t service_length;
+
+/* Room for pieces of free memory; a line names each piece where there are a few, as many as the small buffer takes. */
+#define PIECE MEMBLOCK_PIECE_LENGTH
+#define PIECES_FEW 5
+#define PIECES_MOST 32768
+static uint8_t buffer[PIECES_MOST * PIECE + GUARD];
 
 static const struct machine *machine;
 static uint64_t calls;
@@ -104,6 +111,16 @@ static uint64_t slip_end(void)
     return number_at(slip, MEMBLOCK_SLIP_END_AT, 8);
 }
 
+static uint64_t piece_page(uint64_t i)
+{
+    return number_at(buffer, i * PIECE + MEMBLOCK_PIECE_PAGE_AT, 8);
+}
+
+static uint64_t piece_order(uint64_t i)
+{
+    return number_at(buffer, i * PIECE + MEMBLOCK_PIECE_ORDER_AT, 4);
+}
+
 static void put_number(uint8_t *bytes, size_t at, size_t length, uint64_t number)
 {
     for (size_t i = 0; i < length; i++, number >>= 8)
@@ -111,12 +128,18 @@ static void put_number(uint8_t *bytes, size_t at, size_t length, uint64_t number
 }
 
 /* FNV-1a. */
-static uint64_t sum(const uint8_t *bytes, size_t length)
+#define SUM_OF_NONE UINT64_C(0xcbf29ce484222325)
+
+static uint64_t sum_on(uint64_t sum, const uint8_t *bytes, size_t length)
 {
-    uint64_t sum = UINT64_C(0xcbf29ce484222325);
     for (size_t i = 0; i < length; i++)
         sum = (sum ^ bytes[i]) * UINT64_C(0x100000001b3);
     return sum;
+}
+
+static uint64_t sum(const uint8_t *bytes, size_t length)
+{
+    return sum_on(SUM_OF_NONE, bytes, length);
 }
 
 /* A call's line. */
@@ -295,6 +318,33 @@ static uint32_t find(const struct lent *lent, uint64_t size, uint64_t alignment,
 static uint32_t allocate(struct lent *lent, uint64_t size, uint64_t alignment, uint64_t start, uint64_t end, uint32_t node)
 {
     return allocate_slip(lent, (struct query){size, alignment, start, end, node, NONE, MEMBLOCK_SLIP_LENGTH});
+}
+
+/* Pieces into the first bytes of the buffer. */
+static uint32_t pages_slip(const struct lent *lent, size_t length, uint64_t from, size_t buffer_length, size_t slip_length)
+{
+    for (size_t i = 0; i < buffer_length + GUARD; i++)
+        buffer[i] = FILL;
+    begin("pages", lent, length);
+    named(", ", from);
+    named(", buffer, ", buffer_length);
+    named(", slip, ", slip_length);
+    uint32_t number = memblock_pages(lent->bytes, length, from, buffer, buffer_length, slip, slip_length);
+    answered(lent, number);
+    slip_line(slip_length);
+    named(" buffer ", sum(buffer, buffer_length + GUARD));
+    uint64_t count = slip_length == MEMBLOCK_SLIP_LENGTH ? number_at(slip, MEMBLOCK_SLIP_COUNT_AT, 8) : 0;
+    for (uint64_t i = 0; i < count && count <= PIECES_FEW; i++) {
+        named(" page ", piece_page(i));
+        named(" order ", piece_order(i));
+    }
+    text("\n");
+    return number;
+}
+
+static uint32_t pages(const struct lent *lent, uint64_t from, size_t buffer_length)
+{
+    return pages_slip(lent, LENGTH, from, buffer_length, MEMBLOCK_SLIP_LENGTH);
 }
 
 /* The first bytes of the report as it stands. */
@@ -1046,6 +1096,154 @@ static void free_runs(const struct lent *lent, uint32_t node, uint32_t wish)
         from = slip_end();
 }
 
+/* The free pages, handed over. */
+
+/* What the machine has mapped. */
+#define MAPPED GIB(4)
+
+/* A free run as next free tells it, without a line; 0 and 0 where there is none. */
+static struct held run_from(const struct lent *lent, uint64_t from)
+{
+    uint8_t run[MEMBLOCK_SLIP_LENGTH];
+    memblock_next_free(lent->bytes, LENGTH, from, ANY, MEMBLOCK_WISH_HOTPLUG, run, sizeof run);
+    uint64_t base = number_at(run, MEMBLOCK_SLIP_BASE_AT, 8);
+    return (struct held){base, number_at(run, MEMBLOCK_SLIP_END_AT, 8) - base};
+}
+
+/* The whole pages of the free runs, run by run. */
+static uint64_t whole_pages(const struct lent *lent)
+{
+    uint64_t count = 0;
+    for (struct held run = run_from(lent, 0); run.size > 0; run = run_from(lent, run.base + run.size)) {
+        uint64_t first = run.base / PAGE + (run.base % PAGE != 0);
+        uint64_t past = (run.base + run.size) / PAGE;
+        count += first < past ? past - first : 0;
+    }
+    return count;
+}
+
+/* Whether an address of the range is taken. */
+static int any_taken(const struct lent *lent, uint64_t base, uint64_t end)
+{
+    uint64_t count = number_at(lent->bytes, MEMBLOCK_TAKEN_ENTRY_AT + MEMBLOCK_ENTRY_COUNT_AT, 4);
+    const uint8_t *record = lent->bytes + MEMBLOCK_TAKEN_AT;
+    for (uint64_t i = 0; i < count; i++, record += MEMBLOCK_RECORD_LENGTH) {
+        uint64_t taken = number_at(record, MEMBLOCK_RECORD_BASE_AT, 8);
+        if (taken < end && base < taken + number_at(record, MEMBLOCK_RECORD_SIZE_AT, 8))
+            return 1;
+    }
+    return 0;
+}
+
+/* Whether 2^order pages from this one on are a piece, above all pages below past: at a multiple of their size, in one free run, none of it
+ * taken. */
+static int is_piece(const struct lent *lent, uint64_t page, uint64_t order, uint64_t past)
+{
+    if (page < past || page >= MEMBLOCK_PAGES || order > MEMBLOCK_LARGEST_ORDER || page % (UINT64_C(1) << order) != 0)
+        return 0;
+    uint64_t base = page * PAGE;
+    uint64_t size = PAGE << order;
+    struct held run = run_from(lent, base);
+    return run.base == base && run.size >= size && !any_taken(lent, base, base + size);
+}
+
+/* Uses the first word and the last of a piece that is mapped, or looks whether they hold what they should. */
+static int use_piece(uint64_t page, uint64_t order, int again)
+{
+    uint64_t words[] = {page * PAGE, page * PAGE + (PAGE << order) - 8};
+    int holds = 1;
+    if (machine->store == NULL || words[1] >= MAPPED)
+        return holds;
+    for (size_t i = 0; i < sizeof words / sizeof words[0]; i++)
+        if (again)
+            holds = holds && machine->load(words[i]) == ~words[i];
+        else
+            machine->store(words[i], ~words[i]);
+    return holds;
+}
+
+/* What calls in turn handed over: pieces and their pages, a sum over the pieces' bytes, and how many pieces were none. */
+struct handed {
+    uint64_t pieces, pages, sum, wrong;
+};
+
+/* Calls in turn from page 0 on until no piece is left. The buffer is the small one at first, and grows where there are many pieces; or it
+ * is the large one, all but a byte. */
+static struct handed hand_over_by(const struct lent *lent, int large, int use)
+{
+    struct handed handed = {0, 0, SUM_OF_NONE, 0};
+    size_t room = large ? PIECES_MOST * PIECE - 1 : PIECES_FEW * PIECE;
+    uint64_t from = 0, past = 0;
+    for (unsigned turn = 1; from != MEMBLOCK_PAGES && pages(lent, from, room) == MEMBLOCK_DONE; turn++) {
+        uint64_t count = number_at(slip, MEMBLOCK_SLIP_COUNT_AT, 8);
+        from = number_at(slip, MEMBLOCK_SLIP_NEXT_PAGE_AT, 8);
+        if (count > room / PIECE || (count < room / PIECE && from != MEMBLOCK_PAGES)) {
+            handed.wrong++;
+            break;
+        }
+        for (uint64_t i = 0; i < count; i++) {
+            uint64_t page = piece_page(i), order = piece_order(i);
+            if (!is_piece(lent, page, order, past)) {
+                handed.wrong++;
+                continue;
+            }
+            past = page + (UINT64_C(1) << order);
+            handed.pages += past - page;
+            handed.wrong += use && !use_piece(page, order, large);
+        }
+        handed.pieces += count;
+        handed.sum = sum_on(handed.sum, buffer, count * PIECE);
+        if (turn >= 12 && room < PIECES_MOST / 2 * PIECE)
+            room *= 2;
+    }
+    uint64_t whole = whole_pages(lent);
+    handed.wrong += handed.pages != whole;
+    text("handed ");
+    text(lent->name);
+    named(" pieces ", handed.pieces);
+    named(" pages ", handed.pages);
+    named(" of ", whole);
+    named(" sum ", handed.sum);
+    named(" wrong ", handed.wrong);
+    text("\n");
+    return handed;
+}
+
+/* All free pages by small buffers, then by a large one, which gives the same pieces. Answers what was wrong. */
+static int hand_over(const struct lent *lent, int use)
+{
+    struct handed small = hand_over_by(lent, 0, use);
+    struct handed large = hand_over_by(lent, 1, use);
+    int same = small.pieces == large.pieces && small.pages == large.pages && small.sum == large.sum;
+    return (int)(small.wrong + large.wrong) + !same;
+}
+
+/* Slips and a block that are refused, buffers that take nothing or have bytes left, pages in a piece and behind all of them. */
+static void some_pages(void)
+{
+    static const size_t slips[] = {0, MEMBLOCK_SLIP_LENGTH - 1, MEMBLOCK_SLIP_LENGTH + 1};
+    static const uint64_t last[] = {MEMBLOCK_PAGES - 1, MEMBLOCK_PAGES, UINT64_MAX};
+    const size_t few = PIECES_FEW * PIECE;
+    for (size_t i = 0; i < sizeof slips / sizeof slips[0]; i++)
+        pages_slip(&block, LENGTH, 0, few, slips[i]);
+    pages_slip(&block, LENGTH - 1, 0, few, MEMBLOCK_SLIP_LENGTH);
+    pages(&block, 0, 0);
+    pages(&block, 0, PIECE - 1);
+    pages(&block, number_at(slip, MEMBLOCK_SLIP_NEXT_PAGE_AT, 8), 2 * PIECE - 1);
+    for (size_t i = 0; i < sizeof last / sizeof last[0]; i++)
+        pages(&block, last[i], few);
+    pages(&block, 0, few);
+    uint64_t count = number_at(slip, MEMBLOCK_SLIP_COUNT_AT, 8);
+    for (uint64_t i = 0; i < count && i < PIECES_FEW; i++)
+        if (piece_order(i) > 0) {
+            uint64_t page = piece_page(i), past = page + (UINT64_C(1) << piece_order(i));
+            pages(&block, page, few);
+            pages(&block, page + 1, few);
+            pages(&block, past - 1, few);
+            return;
+        }
+}
+
 /* Each call on a block with one byte wrong. */
 static void bad_block(void)
 {
@@ -1070,6 +1268,8 @@ static void bad_block(void)
     intake_tree(&block, 0);
     intake_trees(&block, tree_length, service_length);
     intake_trees(&block, 0, 0);
+    pages(&block, 0, PIECES_FEW * PIECE);
+    pages_slip(&block, LENGTH, MEMBLOCK_PAGES, PIECES_FEW * PIECE, MEMBLOCK_SLIP_LENGTH - 1);
     poke(&block, MEMBLOCK_MEMORY_TOTAL_AT, byte);
 }
 
@@ -1170,8 +1370,8 @@ static void full_taken(struct lent *lent)
     FREE(lent, last + 4 * PAGE, PAGE);
 }
 
-/* The memory table filled with records that touch and differ in their tags. */
-static void full_memory(struct lent *lent)
+/* The memory table filled with records that touch and differ in their tags. Answers what was wrong with its pages. */
+static int full_memory(struct lent *lent)
 {
     uint64_t base = FAR_MEMORY;
     uint64_t count = 0;
@@ -1208,8 +1408,10 @@ static void full_memory(struct lent *lent)
         FREE(lent, slip_base(), PAGE);
     set(lent, GIB(4), MEMBLOCK_BOTTOM_UP);
     free_runs(lent, 2, NONE);
+    int wrong = hand_over(lent, 0); /* no piece goes on from one record to the next */
     trim(lent, 2 * PAGE);
     REMOVE(lent, base, MEMBLOCK_MEMORY_CAPACITY * 2 * PAGE);
+    return wrong;
 }
 
 /* Memory of another node where there was none; what was there keeps its tag. Taken addresses that are no memory stay taken. */
@@ -1235,6 +1437,11 @@ static void at_the_top(struct lent *lent)
     find(lent, PAGE - 1, 1, 0, MEMBLOCK_TOP, 1);
     find(lent, PAGE - 2, 1, 0, MEMBLOCK_TOP, 1);
     next_free(lent, 0, 1, NONE, MEMBLOCK_SLIP_LENGTH);
+    pages(lent, MEMBLOCK_PAGES - 1, PIECE); /* the last page is never whole */
+    add(lent, UINT64_C(0) - 4 * PAGE, 3 * PAGE, 0, 1);
+    pages(lent, MEMBLOCK_PAGES - 4, PIECES_FEW * PIECE);
+    pages(lent, MEMBLOCK_PAGES - 2, PIECES_FEW * PIECE);
+    REMOVE(lent, UINT64_C(0) - 4 * PAGE, 3 * PAGE);
     RESERVE(lent, UINT64_C(0) - PAGE, 2 * PAGE);
     FREE(lent, MEMBLOCK_TOP, 1); /* nothing is left of it */
     FREE(lent, UINT64_C(0) - PAGE - 1, 2 * PAGE);
@@ -1314,11 +1521,13 @@ int boot(const struct machine *runs_on)
     bad_block();
     reports(&block);
     full_taken(&mirror);
-    full_memory(&mirror);
+    lost += full_memory(&mirror);
     another_node(&mirror);
     at_the_top(&mirror);
+    some_pages(); /* page 0 among them, where there is memory */
     REMOVE(&block, 0, PAGE); /* the page of null pointers */
     free_runs(&block, 0, MEMBLOCK_WISH_HOTPLUG);
+    lost += hand_over(&block, 1);
 
     /* Nothing was written where memory in use stands. */
     for (size_t i = 0; i < use_count; i++) {

@@ -33,9 +33,13 @@ struct machine {
     /* Writes over memory just allocated, and later looks whether it still holds that. Null where addresses are only numbers. */
     void (*fill)(uint64_t base, uint64_t end);
     int (*holds)(uint64_t base, uint64_t end);
+    /* One word of memory that is handed over. Null likewise. */
+    void (*store)(uint64_t address, uint64_t word);
+    uint64_t (*load)(uint64_t address);
 };
 
-/* Runs the boot program and writes its transcript. Answers how many allocations no longer held what was written there. */
+/* Runs the boot program and writes its transcript. Answers how many allocations no longer held what was written there, and what was wrong
+ * with the pages handed over. */
 int boot(const struct machine *machine);
 
 #endif

@@ -89,6 +89,16 @@ static int holds(uint64_t base, uint64_t end)
     return 1;
 }
 
+static void store(uint64_t address, uint64_t word)
+{
+    *(volatile uint64_t *)address = word;
+}
+
+static uint64_t load(uint64_t address)
+{
+    return *(volatile uint64_t *)address;
+}
+
 /* QEMU ends with 2 * code + 1. */
 static void leave(uint8_t code)
 {
@@ -129,6 +139,8 @@ void machine_main(uint32_t start_info)
         .write = serial_write,
         .fill = fill,
         .holds = holds,
+        .store = store,
+        .load = load,
     };
     leave(boot(&machine) == 0 ? 0x10 : 2);
 }

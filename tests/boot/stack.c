@@ -47,7 +47,24 @@ __asm__(".text\n"
         "    popq %rbp\n"
         "    ret\n");
 
-enum numbers { NONE, LIMIT, IMAGE_END, RANGE_TAG, RANGE_FLAG, RANGE, TAKEN_RANGE, ALIGNMENT, FROM, SEARCH, REPORT, TREE, TREES, LOOKUP, OLD };
+enum numbers {
+    NONE,
+    LIMIT,
+    IMAGE_END,
+    RANGE_TAG,
+    RANGE_FLAG,
+    RANGE,
+    TAKEN_RANGE,
+    ALIGNMENT,
+    FROM,
+    SEARCH,
+    PAGES,
+    REPORT,
+    TREE,
+    TREES,
+    LOOKUP,
+    OLD
+};
 
 static struct function {
     const char *name;
@@ -70,6 +87,7 @@ static struct function {
     {"next_free", (void (*)(void))memblock_next_free, FROM, MEMBLOCK_STACK_NEXT_FREE, 0, 0, 0},
     {"find", (void (*)(void))memblock_find, SEARCH, MEMBLOCK_STACK_FIND, 0, 0, 0},
     {"allocate", (void (*)(void))memblock_allocate, SEARCH, MEMBLOCK_STACK_ALLOCATE, 0, 0, 0},
+    {"pages", (void (*)(void))memblock_pages, PAGES, MEMBLOCK_STACK_PAGES, 0, 0, 0},
     {"intake_e820", (void (*)(void))memblock_intake_e820, REPORT, MEMBLOCK_STACK_INTAKE_E820, 0, 0, 0},
     {"intake_tree", (void (*)(void))memblock_intake_tree, TREE, MEMBLOCK_STACK_INTAKE_TREE, 0, 0, 0},
     {"intake_trees", (void (*)(void))memblock_intake_trees, TREES, MEMBLOCK_STACK_INTAKE_TREES, 0, 0, 0},
@@ -83,6 +101,7 @@ static uint8_t old[OLD_LENGTH];
 static uint8_t block[MEMBLOCK_BLOCK_LENGTH];
 static uint8_t slip[MEMBLOCK_SLIP_LENGTH];
 static uint8_t report[(MEMBLOCK_REPORT_ENTRIES + 1) * MEMBLOCK_REPORT_ENTRY_LENGTH];
+static uint8_t buffer[2000 * MEMBLOCK_PIECE_LENGTH]; /* more pieces than the tables have */
 
 static unsigned taken_records;
 
@@ -110,15 +129,15 @@ static uint64_t taken_base(uint64_t i)
     return 0x2000 * i + 0x1100;
 }
 
-/* Memory records of 4 KiB, of which every third touches the one before, of any flags or of those of edition 1; taken records of 256
- * bytes within them; no image end. Their tags are such that some marks make one record of two that touch, where flags are any, and some
- * adds one of two that do not, where they are those of edition 1. */
+/* Memory records of 4 KiB, the last one of 8 MiB, of which every third touches the one before, of any flags or of those of edition 1;
+ * taken records of 256 bytes within them; no image end. Their tags are such that some marks make one record of two that touch, where flags
+ * are any, and some adds one of two that do not, where they are those of edition 1. */
 static void fill_tables(unsigned memory, unsigned taken, uint32_t direction, int any_flags)
 {
     memblock_fresh(before, sizeof before);
     memblock_set(before, sizeof before, MEMBLOCK_NO_LIMIT, direction);
     for (unsigned i = 0; i < memory; i++)
-        memblock_add(before, sizeof before, 0x2000 * (uint64_t)i + (i % 3 == 0 ? 0x1000 : 0), 0x1000,
+        memblock_add(before, sizeof before, 0x2000 * (uint64_t)i + (i % 3 == 0 ? 0x1000 : 0), i + 1 < memory ? 0x1000 : 0x800000,
                      any_flags ? i % (MEMBLOCK_FLAGS + 1) : i % 5 == 0 ? MEMBLOCK_NO_MAP : 0, any_flags ? i / 32 : i % 3 == 0);
     for (unsigned i = 0; i < taken; i++)
         memblock_reserve(before, sizeof before, taken_base(i), TAKEN_SIZE);
@@ -483,6 +502,11 @@ static size_t choose(enum numbers numbers, uint64_t *arguments)
         arguments[n++] = address();
         arguments[n++] = node();
         arguments[n++] = wish();
+        break;
+    case PAGES:
+        arguments[n++] = below(3) == 0 ? 0 : below(4) == 0 ? address() : address() / MEMBLOCK_PAGE_SIZE;
+        arguments[n++] = (uint64_t)(uintptr_t)buffer;
+        arguments[n++] = below(3) == 0 ? sizeof buffer : below(below(2) == 0 ? 40 * MEMBLOCK_PIECE_LENGTH : 2 * MEMBLOCK_PIECE_LENGTH);
         break;
     case SEARCH:
         arguments[n++] = size();

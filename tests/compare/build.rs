@@ -8,7 +8,7 @@
 use std::path::{Path, PathBuf};
 use std::process::Command;
 
-const FUNCTIONS: [&str; 18] = [
+const FUNCTIONS: [&str; 19] = [
     "memblock_fresh",
     "memblock_set",
     "memblock_set_image_end",
@@ -22,6 +22,7 @@ const FUNCTIONS: [&str; 18] = [
     "memblock_next_free",
     "memblock_find",
     "memblock_allocate",
+    "memblock_pages",
     "memblock_intake_e820",
     "memblock_intake_tree",
     "memblock_intake_trees",

@@ -1,12 +1,13 @@
 //! The twelve commands of document 01, the E820 intake of request E1, the tree's intake of
 //! request E8, the pair's intake and the lookup of request E9, on the block of request E4,
-//! with the flags and wishes of request E6, the image end of request E7 and the frees of
-//! request E10, as plain Rust: the program that the library's speed is held against. Same
-//! rules, same numbers, same bytes.
+//! with the flags and wishes of request E6, the image end of request E7, the frees of
+//! request E10 and the free pages of request E14, as plain Rust: the program that the
+//! library's speed is held against. Same rules, same numbers, same bytes.
 
 #![forbid(unsafe_code)]
 
 mod block;
+mod pages;
 mod record;
 mod report;
 mod search;
@@ -277,6 +278,15 @@ pub fn allocate(
             DONE => Ok((address, run_end)),
             refusal => Err(refusal),
         }
+    };
+    with_slip(slip, answer)
+}
+
+#[inline(never)]
+pub fn pages(block: &[u8], from: u64, buffer: &mut [u8], slip: &mut [u8]) -> u32 {
+    let answer = || {
+        let block = Block::check(block).ok_or(BAD_BLOCK)?;
+        Ok(pages::hand_over(&block, from, buffer))
     };
     with_slip(slip, answer)
 }

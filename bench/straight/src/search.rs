@@ -86,12 +86,12 @@ pub fn lowest_run<B: AsRef<[u8]>>(
 
 /// Shows `fit` the free runs inside the window, lowest first, until it answers with
 /// an address; the end is that of the whole run.
-fn lowest<B: AsRef<[u8]>>(
+pub fn lowest<B: AsRef<[u8]>>(
     block: &Block<B>,
     start: u64,
     end: u64,
     wanted: Wanted,
-    fit: impl Fn(u64, u64) -> Option<u64>,
+    mut fit: impl FnMut(u64, u64) -> Option<u64>,
 ) -> Option<(u64, u64)> {
     let mut taken = block.records(Which::Taken).peekable();
     for memory in block.records(Which::Memory) {

@@ -5,35 +5,35 @@
 use crate::growth;
 use crate::intake::counted;
 use crate::library::Library;
-use crate::sides::{Block, Call, Side, Slip};
+use crate::pages;
+use crate::sides::{Block, Call, Side};
 use crate::{DIRECTIONS, SEEDS, SHAPES};
 use std::hint::black_box;
 use std::sync::atomic::{AtomicUsize, Ordering};
 
-/// Makes the calls, and gives their numbers joined.
+/// Does the work, and gives the numbers of its calls joined.
 #[no_mangle]
 #[inline(never)]
-fn bench_counted(
-    call: fn(Call, &mut Block, &mut Slip) -> u32,
-    calls: &[Call],
-    block: &mut Block,
-) -> u32 {
-    let mut slip = [0; 16];
-    let numbers = calls.iter().map(|&one| call(one, block, &mut slip));
-    numbers.fold(0, |all, number| all | number)
+fn bench_counted(work: &mut dyn FnMut() -> u32) -> u32 {
+    work()
 }
 
 /// The instructions of calls, none refused.
 fn count<S: Side>(calls: &[Call], block: &mut Block) -> f64 {
+    let mut slip = [0; 16];
+    instructions(&mut || {
+        let numbers = calls.iter().map(|&one| S::call(one, block, &mut slip));
+        numbers.fold(0, |all, number| all | number)
+    })
+}
+
+/// The instructions of some work.
+fn instructions(work: &mut dyn FnMut() -> u32) -> f64 {
     static FILES: AtomicUsize = AtomicUsize::new(0);
     let Some(mut name) = std::env::var_os("BENCH_COUNTS") else {
         panic!("count is for bench/run, which starts it under callgrind");
     };
-    assert_eq!(
-        bench_counted(black_box(S::call), calls, block),
-        0,
-        "a call refused"
-    );
+    assert_eq!(bench_counted(black_box(work)), 0, "a call refused");
     name.push(format!(".{}", FILES.fetch_add(1, Ordering::Relaxed) + 1));
     let text = std::fs::read_to_string(&name).expect("callgrind has written it");
     let total = text.lines().find_map(|line| line.strip_prefix("totals: "));
@@ -42,7 +42,8 @@ fn count<S: Side>(calls: &[Call], block: &mut Block) -> f64 {
         .expect("a total")
 }
 
-/// Prints the counts at each fill, then those of the E11 work, means over all seeds.
+/// Prints the counts at each fill, those of the E11 work, means over all seeds, and those of
+/// all free pages handed over.
 pub fn print<Other: Side>() {
     growth::print::<Other>("instructions", |row, saved| {
         (
@@ -76,5 +77,16 @@ pub fn print<Other: Side>() {
                 );
             }
         }
+    }
+    if Other::PAGES {
+        let measure = |block: &Block, room: usize| {
+            let mut buffer = vec![0; room];
+            (
+                instructions(&mut || pages::hand_over::<Library>(block, &mut buffer)),
+                instructions(&mut || pages::hand_over::<Other>(block, &mut buffer)),
+            )
+        };
+        pages::print::<Other>("instructions", measure);
+        pages::print_growth::<Other>("instructions", measure);
     }
 }

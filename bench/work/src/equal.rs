@@ -2,7 +2,8 @@
 
 use crate::rng::Rng;
 use crate::sides::{
-    call_both, entry, Block, Call, Side, Straight, ANY_NODE, HOTPLUG, LENGTH, MIRROR, NO_MAP,
+    call_both, entry, number, pages_both, Block, Call, Side, Straight, ANY_NODE, HOTPLUG, LENGTH,
+    MIRROR, NO_MAP, PAGES, PIECE,
 };
 
 /// Where the taken records begin.
@@ -77,6 +78,11 @@ pub fn random_calls<Other: Side>(calls: u64) {
     } else {
         0
     };
+    let handed = if Other::PAGES {
+        handovers::<Other>(&mut rng, calls / 200)
+    } else {
+        0
+    };
     // 8 needs a slip of another length and is left to the tests; there is no 9.
     let met = |number: usize| seen[number] > 0 || number == 11 && !Other::TREES;
     assert!((0..8).chain(10..13).all(met), "not every number met");
@@ -92,7 +98,7 @@ pub fn random_calls<Other: Side>(calls: u64) {
     );
     println!(
         "bench: {} random calls on library and {}, all equal",
-        seen.iter().sum::<u64>() + looked,
+        seen.iter().sum::<u64>() + looked + handed,
         Other::NAME
     );
 }
@@ -128,23 +134,107 @@ fn pairs<Other: Side>(rng: &mut Rng, count: u64, seen: &mut [u64; 13]) -> u64 {
     count
 }
 
+/// Calls for pages of so many boards: in turn from page 0 on, and from any page; how many
+/// calls there were.
+fn handovers<Other: Side>(rng: &mut Rng, boards: u64) -> u64 {
+    let mut calls = 0;
+    let mut orders = [0u64; 11];
+    let (mut refused, mut ended, mut cut_off, mut inside) = (0, 0, 0, 0);
+    for _ in 0..boards {
+        let block = board_of_pages::<Other>(rng);
+        let mut pieces = Vec::new();
+        let mut page = 0;
+        let most = rng.between(1, 40) as usize;
+        while page != PAGES && pieces.len() < 2000 {
+            let room = rng.between(1, most as u64) as usize * PIECE + rng.between(0, 11) as usize;
+            let (answer, slip, buffer) = pages_both::<Other>(&block, page, room);
+            assert_eq!(answer, straight::DONE);
+            let count = number(&slip, 0) as usize;
+            for piece in buffer[..count * PIECE].chunks_exact(PIECE) {
+                orders[piece[8] as usize] += 1;
+                pieces.push((number(piece, 0), piece[8]));
+            }
+            page = number(&slip, 8);
+            cut_off += u64::from(page != PAGES);
+            calls += 1;
+        }
+        ended += u64::from(page == PAGES);
+        for _ in 0..10 {
+            let mut from = match rng.between(0, 9) {
+                0 => rng.next() >> rng.between(0, 63),
+                1 => PAGES.saturating_sub(rng.between(0, 4096)),
+                _ => rng.between(0, 70_000),
+            };
+            if let (Some(last), true) = (pieces.len().checked_sub(1), rng.between(0, 1) == 0) {
+                let (page, order) = pieces[rng.between(0, last as u64) as usize];
+                let into = rng.between(0, (1 << order) - 1);
+                from = page + into;
+                inside += u64::from(into > 0);
+            }
+            let room = rng.between(0, 30 * PIECE as u64) as usize;
+            let (answer, ..) = match rng.between(0, 9) {
+                0 => pages_both::<Other>(&damaged(rng, &block), from, room),
+                _ => pages_both::<Other>(&block, from, room),
+            };
+            refused += u64::from(answer == straight::BAD_BLOCK);
+            calls += 1;
+        }
+    }
+    assert!(orders.iter().all(|&count| count > 0), "an order never met");
+    let met = [refused, ended, cut_off, inside];
+    assert!(
+        met.iter().all(|&count| count > boards / 4),
+        "too few of {met:?}"
+    );
+    calls
+}
+
+/// Memory of several tags and taken ranges, of some pages each, few or many; some with ends
+/// off the page, some at the top.
+fn board_of_pages<Other: Side>(rng: &mut Rng) -> Block {
+    let mut block = Block::fresh();
+    let shift = [10, 12, 16][rng.between(0, 2) as usize];
+    let most = [4, 40, 400][rng.between(0, 2) as usize];
+    for _ in 0..rng.between(0, most) {
+        let ragged = |rng: &mut Rng| match rng.between(0, 3) {
+            0 => rng.between(0, 4095),
+            _ => 0,
+        };
+        let mut base = (rng.between(0, 4000) << shift) + ragged(rng);
+        let size = (rng.between(0, 200) << shift) + ragged(rng);
+        if rng.between(0, 29) == 0 {
+            base = u64::MAX - base;
+        }
+        let call = match rng.between(0, 9) {
+            0..=3 => Call::Add(
+                base,
+                size,
+                rng.between(0, 3) as u32,
+                rng.between(0, 1) as u32,
+            ),
+            4 => Call::Mark(base, size / 8, NO_MAP),
+            5 => Call::Remove(base, size / 8),
+            _ => Call::Reserve(base, size / 16),
+        };
+        call_both::<Other>(call, &mut block);
+    }
+    block
+}
+
 /// How far above the image end a bottom-up search gives an address, if there is an image.
 fn from_image_end(call: Call, block: &Block) -> Option<i128> {
-    let number = |at: usize, bytes: &[u8]| {
-        u64::from_le_bytes(bytes[at..at + 8].try_into().expect("8 bytes"))
-    };
-    let image_end = number(72, &block.0);
+    let image_end = number(&block.0, 72);
     if !matches!(call, Call::Find(..) | Call::Allocate(..)) || block.0[48] == 0 || image_end == 0 {
         return None;
     }
     let mut slip = [0; 16];
     let done = Straight::call(call, &mut block.clone(), &mut slip) == straight::DONE;
-    done.then(|| i128::from(number(0, &slip)) - i128::from(image_end))
+    done.then(|| i128::from(number(&slip, 0)) - i128::from(image_end))
 }
 
 /// Mostly a free around some taken record: all of it, a part, or one address more.
 fn around_taken<'a>(rng: &mut Rng, block: &Block, any: Call<'a>) -> Call<'a> {
-    let number = |at: usize| u64::from_le_bytes(block.0[at..at + 8].try_into().expect("8 bytes"));
+    let number = |at: usize| number(&block.0, at);
     let count = number(32) & 0xffff_ffff;
     if count == 0 || rng.between(0, 3) == 0 {
         return any;

@@ -1,6 +1,6 @@
 // The functions of an archive. This text is compiled three times: for the archive that is measured, and by build.rs under other names for an earlier one,
-// as it is and without flag and wish, which the functions take since request E6; without the image end, the tree and the pair, where the earlier one has
-// no function for it.
+// as it is and without flag and wish, which the functions take since request E6; without the image end, the tree, the pair and the pages, where the earlier
+// one has no function for it.
 
 use crate::sides::{Block, Call, Side, Slip, LENGTH};
 
@@ -22,6 +22,7 @@ extern "C" {
         node: u32, wish: u32, slip: *mut u8, slip_len: usize) -> u32;
     fn memblock_allocate(block: *mut u8, len: usize, size: u64, alignment: u64, start: u64, end: u64,
         node: u32, wish: u32, slip: *mut u8, slip_len: usize) -> u32;
+    fn memblock_pages(block: *const u8, len: usize, from: u64, buffer: *mut u8, buffer_len: usize, slip: *mut u8, slip_len: usize) -> u32;
     fn memblock_intake_e820(block: *mut u8, len: usize, report: *const u8, report_len: usize) -> u32;
     fn memblock_intake_tree(block: *mut u8, len: usize, board: *const u8, board_len: usize) -> u32;
     fn memblock_intake_trees(block: *mut u8, len: usize, board: *const u8, board_len: usize, service: *const u8, service_len: usize) -> u32;
@@ -35,6 +36,15 @@ impl Side for Library {
     const NAME: &'static str = "library";
     const TREES: bool = true;
     const PAIRS: bool = true;
+    const PAGES: bool = true;
+
+    fn pages(block: &Block, from: u64, buffer: &mut [u8], slip: &mut Slip) -> u32 {
+        let (b, n) = (block.0.as_ptr(), LENGTH);
+        let (p, room) = (buffer.as_mut_ptr(), buffer.len());
+        let (s, m) = (slip.as_mut_ptr(), slip.len());
+        // Buffer and slip are whole, writable and apart; the block is only read.
+        unsafe { memblock_pages(b, n, from, p, room, s, m) }
+    }
 
     fn call(call: Call, block: &mut Block, slip: &mut Slip) -> u32 {
         let (b, n) = (block.0.as_mut_ptr(), LENGTH);

@@ -2,12 +2,14 @@
 //! with `since`, beside an earlier library, or counts its instructions. Fails on a
 //! difference between the two, never on a figure.
 
-/// The library of another archive: the text of library.rs under other names.
+/// The library of another archive: the text of library.rs under other names. Of a function
+/// that it lacks only the arguments stand there.
+#[allow(unused_variables, unused_unsafe)]
 mod before {
     include!(concat!(env!("OUT_DIR"), "/before.rs"));
 }
 /// The same, as its functions were before request E6: without flag and wish.
-#[allow(clashing_extern_declarations)]
+#[allow(clashing_extern_declarations, unused_variables, unused_unsafe)]
 mod before_e6 {
     include!(concat!(env!("OUT_DIR"), "/before_e6.rs"));
 }
@@ -16,6 +18,7 @@ mod equal;
 mod growth;
 mod intake;
 mod library;
+mod pages;
 mod rng;
 mod sides;
 mod time;
@@ -53,12 +56,13 @@ type Part = (&'static str, fn());
 
 /// The parts are run in this order; arguments name those that are wanted. Without
 /// arguments `count` is left out: it needs bench/run and takes longer.
-fn parts<Other: Side>() -> [Part; 5] {
+fn parts<Other: Side>() -> [Part; 6] {
     [
         ("equal", || equal::random_calls::<Other>(RANDOM_CALLS)),
         ("intake", intake::<Other>),
         ("growth", || growth::table::<Other>(CALLS_OF_A_KIND)),
         ("tree", tree::print::<Other>),
+        ("pages", pages::table::<Other>),
         ("count", count::print::<Other>),
     ]
 }
@@ -83,7 +87,9 @@ fn main() {
     };
     for name in &wanted {
         if !parts.iter().any(|part| part.0 == name) {
-            eprintln!("bench: no part {name}; there are equal, intake, growth, tree and count");
+            eprintln!(
+                "bench: no part {name}; there are equal, intake, growth, tree, pages and count"
+            );
             std::process::exit(2);
         }
     }

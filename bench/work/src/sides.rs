@@ -8,6 +8,9 @@ pub use straight::{ANY_NODE, HOTPLUG, MIRROR, NO_MAP};
 pub const NO_WISH: u32 = 0;
 pub const TOP_DOWN: u32 = 0;
 pub const BOTTOM_UP: u32 = 1;
+/// A piece's bytes, and one more than the number of the last page.
+pub const PIECE: usize = 12;
+pub const PAGES: u64 = 1 << 52;
 
 /// A block's bytes, at the start of a cache line.
 #[derive(Clone, PartialEq, Eq)]
@@ -22,7 +25,7 @@ impl Block {
     }
 }
 
-/// What find, allocate, next free and a lookup write.
+/// What find, allocate, next free, a lookup and a call for pages write.
 pub type Slip = [u8; 16];
 
 #[derive(Clone, Copy, Debug)]
@@ -64,9 +67,13 @@ pub fn entry(base: u64, size: u64, kind: u32) -> [u8; 20] {
 
 pub trait Side {
     const NAME: &'static str;
-    /// Whether there is a function for trees, and those for pairs of them.
+    /// Whether there is a function for trees, those for pairs of them, and one for pages.
     const TREES: bool;
     const PAIRS: bool;
+    const PAGES: bool;
+
+    /// The free pages from a page on, as pieces in the buffer.
+    fn pages(block: &Block, from: u64, buffer: &mut [u8], slip: &mut Slip) -> u32;
 
     fn call(call: Call, block: &mut Block, slip: &mut Slip) -> u32;
 }
@@ -77,6 +84,11 @@ impl Side for Straight {
     const NAME: &'static str = "straightforward";
     const TREES: bool = true;
     const PAIRS: bool = true;
+    const PAGES: bool = true;
+
+    fn pages(block: &Block, from: u64, buffer: &mut [u8], slip: &mut Slip) -> u32 {
+        straight::pages(&block.0, from, buffer, slip)
+    }
 
     fn call(call: Call, block: &mut Block, slip: &mut Slip) -> u32 {
         let b = &mut block.0;
@@ -120,4 +132,27 @@ pub fn call_both<Other: Side>(call: Call, block: &mut Block) -> u32 {
     assert_eq!(slip, other_slip, "slips differ: {call:?}");
     assert!(*block == other, "blocks differ: {call:?}");
     number
+}
+
+/// The same of a call for pages, with a buffer of so many bytes, which end equal too. Gives
+/// the number, the slip and the buffer; the block stays.
+pub fn pages_both<Other: Side>(block: &Block, from: u64, room: usize) -> (u32, Slip, Vec<u8>) {
+    let before = block.clone();
+    let (mut slip, mut other_slip) = ([0xa5; 16], [0xa5; 16]);
+    let mut buffer = vec![0xa5; room + 8];
+    let mut other_buffer = buffer.clone();
+    let number = Library::pages(block, from, &mut buffer[..room], &mut slip);
+    let other_number = Other::pages(block, from, &mut other_buffer[..room], &mut other_slip);
+    let call = || format!("pages from {from} into {room} bytes");
+    assert_eq!(number, other_number, "numbers differ: {}", call());
+    assert_eq!(slip, other_slip, "slips differ: {}", call());
+    assert!(buffer == other_buffer, "buffers differ: {}", call());
+    assert!(*block == before, "a block was written: {}", call());
+    buffer.truncate(room);
+    (number, slip, buffer)
+}
+
+/// The u64 at a place.
+pub fn number(bytes: &[u8], at: usize) -> u64 {
+    u64::from_le_bytes(bytes[at..at + 8].try_into().expect("8 bytes"))
 }

@@ -31,7 +31,7 @@ fn remainder(x: u64, by: u64) -> u64
 }
 
 // The multiple of a power of two at or below `x`.
-fn round_down(x: u64, by: u64) -> u64
+pub fn round_down(x: u64, by: u64) -> u64
     requires { ⌜ powerOfTwo by ≡ true ⌝ }
     ensures { λ r. ⌜ r ≡ roundDown x by ⌝ }
 {

@@ -6,7 +6,7 @@ use mathlib.Core.Option.{Option, none, some}
 use mathlib.Core.Logic.{_⊎_, inl, inr}
 use native.Mathlib.Omega.{arith}
 use native.Mathlib.Nat.{not-suc-le-zero}
-use Rattle.address.proofs.Tests.{le-or-lt}
+use Rattle.address.proofs.Tests.{clash, le-or-lt}
 use Rattle.fits.specs.Eligible.{orElse, lowest, highest, Gives}
 
 module _ (p : ℕ → Bool) where
@@ -41,3 +41,18 @@ module _ (p : ℕ → Bool) where
           above : (b : ℕ) → b < suc n → (n ≤ b) ⊎ (b < n) → a < b → p b ≡ false
           above b l (inl i) m = let f : n ≡ b = omega arith in rw (← f) e
           above b l (inr i) m = g .1 .1 b i m
+
+  -- and no other number is so
+  pub highest-only : (n : ℕ) (o : Option ℕ) → Gives p (λ b a. a < b) n o → highest p n ≡ o
+  highest-only n o g = go (highest p n) (highest-gives n) o g
+    where
+      one : (a b : ℕ) → Gives p (λ b a. a < b) n (some a) → Gives p (λ b a. a < b) n (some b) → (a ≤ b) ⊎ (b < a) → (b ≤ a) ⊎ (a < b) → _≡_ {A = Option ℕ} (some a) (some b)
+      one a b f g (inr i) j = absurd (clash (p a) (f .0) (g .1 .1 a (f .1 .0) i))
+      one a b f g (inl i) (inr j) = absurd (clash (p b) (g .0) (f .1 .1 b (g .1 .0) j))
+      one a b f g (inl i) (inl j) = let e : a ≡ b = omega arith in rw e
+
+      go : (x : Option ℕ) → Gives p (λ b a. a < b) n x → (y : Option ℕ) → Gives p (λ b a. a < b) n y → x ≡ y
+      go none f none g = refl
+      go none f (some b) g = absurd (clash (p b) (g .0) (f b (g .1 .0)))
+      go (some a) f none g = absurd (clash (p a) (f .0) (g a (f .1 .0)))
+      go (some a) f (some b) g = one a b f g (le-or-lt a b) (le-or-lt b a)

@@ -6,7 +6,7 @@ use mathlib.Core.Option.{Option, none, some}
 use mathlib.Core.Logic.{⊎-elim}
 use native.Mathlib.Omega.{arith}
 use Rattle.address.proofs.Tests.{clash}
-use Rattle.fits.specs.Eligible.{orElse, lowest, Gives}
+use Rattle.fits.specs.Eligible.{orElse, lowest, highest, Gives}
 use Rattle.regions.specs.declared.Run.{Run}
 use Rattle.fits.specs.Places.{Hit, hitOf}
 use Rattle.fits.specs.declared.Way.{Way}
@@ -73,3 +73,8 @@ pub lowest-agree : (p q : ℕ → Bool) (n : ℕ) → ((a : ℕ) → a < n → p
 unfolding lowest
 lowest-agree p q zero h = refl
 lowest-agree p q (suc n) h = rw (h n (omega arith), lowest-agree p q n (λ a l. h a (omega arith)))
+
+pub highest-agree : (p q : ℕ → Bool) (n : ℕ) → ((a : ℕ) → a < n → p a ≡ q a) → highest p n ≡ highest q n
+unfolding highest
+highest-agree p q zero h = refl
+highest-agree p q (suc n) h = rw (h n (omega arith), highest-agree p q n (λ a l. h a (omega arith)))

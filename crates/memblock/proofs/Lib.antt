@@ -10,6 +10,7 @@ pub mod Cases
 pub mod Freed
 pub mod FreedTwice
 pub mod Lookups
+pub mod Pages
 pub mod Refusals
 pub mod InTurn
 pub mod Reports

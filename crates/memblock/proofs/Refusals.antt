@@ -31,10 +31,11 @@ use Rattle.board.proofs.Good.{tree-good, pair-good}
 use Rattle.fits.specs.declared.Query.{Query}
 use Rattle.fits.specs.declared.Place.{Place}
 use Rattle.fits.specs.declared.Place.the-variants.{Here, Nowhere}
-use Rattle.seek.specs.Search.{foundPlace, nextPlace}
-use Rattle.search.specs.Answers.{Answer, answer, refuse, unless as unlessAnswer, slipOf, withSlip, asking, askable, refusal, checkNumber, nextNumber, placeAnswer, find, allocate, allocateAnswer, reserved, nextFree}
-use Rattle.memblock.specs.Calls.{Call, toFresh, toSet, toSetImageEnd, toCommand, toTrim, toFind, toNextFree, toAllocate, toIntake, toIntakeTree, toIntakeTrees, toConvert, plain, answerOf}
-use Rattle.memblock.specs.Refusals.{slipLent, RefusalSentence, DoneSentence}
+use Rattle.seek.specs.Search.{runsOf, foundPlace, nextPlace}
+use Rattle.pages.specs.Pages.{piecesFrom, given, handOver}
+use Rattle.search.specs.Answers.{Answer, answer, withBuffer, refuse, unless as unlessAnswer, slipOf, withSlip, asking, askable, refusal, checkNumber, nextNumber, placeAnswer, find, allocate, allocateAnswer, reserved, nextFree}
+use Rattle.memblock.specs.Calls.{Call, toFresh, toSet, toSetImageEnd, toCommand, toTrim, toFind, toNextFree, toAllocate, toPages, toIntake, toIntakeTree, toIntakeTrees, toConvert, plain, answerOf}
+use Rattle.memblock.specs.Refusals.{slipLent, bufferLent, RefusalSentence, DoneSentence}
 
 -- ---- calls without a slip
 
@@ -134,42 +135,44 @@ module _ (b : List ℕ) where
   convert-fair old =
       record { keeps = one-keeps b _ (goodOne old && eqb (length b) (blockLength current)) 1; isGood = convert-sentence .converts old b .isGood }
 
--- ---- calls with a slip
+-- ---- calls with a slip, and one with a buffer
 
--- what is so of an answer on b with a slip
-record Fair (b slip : List ℕ) (x : Answer) : Type 0 where
+-- what is so of an answer on b with a slip and a buffer
+record Fair (b slip filled : List ℕ) (x : Answer) : Type 0 where
   block : (x .number ≡ 0 → ⊥) → x .block ≡ b
+  buffer : (x .number ≡ 0 → ⊥) → x .buffer ≡ filled
   zero : (x .number ≡ 0 → ⊥) → length slip ≡ 16 → x .slip ≡ replicate 16 0
   lent : (x .number ≡ 0 → ⊥) → (length slip ≡ 16 → ⊥) → x .slip ≡ slip
   isGood : x .number ≡ 0 → good current (x .block) ≡ true
 
-plain-fair : (b : List ℕ) (o : Outcome) → FairOutcome b o → Fair b [] (plain o)
-plain-fair b o f = record { block = f .keeps; zero = λ d l. absurd (omega (arith, l)); lent = λ d l. refl; isGood = f .isGood }
+plain-fair : (b : List ℕ) (o : Outcome) → FairOutcome b o → Fair b [] [] (plain o)
+plain-fair b o f = record { block = f .keeps; buffer = λ d. refl; zero = λ d l. absurd (omega (arith, l)); lent = λ d l. refl; isGood = f .isGood }
 
 module _ (b slip : List ℕ) where
-  with-slip-fair : (x : Answer) → (length slip ≡ 16 → Fair b slip x) → Fair b slip (withSlip b slip x)
+  with-slip-fair : (x : Answer) → (length slip ≡ 16 → Fair b slip [] x) → Fair b slip [] (withSlip b slip x)
   with-slip-fair x h = go (eqb (length slip) 16) refl
     where
-      go : (t : Bool) → eqb (length slip) 16 ≡ t → Fair b slip (cond t x (answer 8 b slip))
+      go : (t : Bool) → eqb (length slip) 16 ≡ t → Fair b slip [] (cond t x (answer 8 b slip))
       go true e = h (eqb-true (length slip) 16 e)
       go false e =
           record {
             block = λ d. refl;
+            buffer = λ d. refl;
             zero = λ d l. absurd (eqb-false (length slip) 16 e l);
             lent = λ d l. refl;
             isGood = λ z. absurd (omega (arith, z));
           }
 
   module _ (l : length slip ≡ 16) where
-    refuse-fair : (n : ℕ) → (n ≡ 0 → ⊥) → Fair b slip (refuse n b)
-    refuse-fair n d = record { block = λ e. refl; zero = λ e m. refl; lent = λ e m. absurd (m l); isGood = λ z. absurd (d z) }
+    refuse-fair : (n : ℕ) → (n ≡ 0 → ⊥) → Fair b slip [] (refuse n b)
+    refuse-fair n d = record { block = λ e. refl; buffer = λ e. refl; zero = λ e m. refl; lent = λ e m. absurd (m l); isGood = λ z. absurd (d z) }
 
-    unless-fair : (t : Bool) (n : ℕ) (x : Answer) → (t ≡ false → n ≡ 0 → ⊥) → (t ≡ true → Fair b slip x) → Fair b slip (unlessAnswer t n b x)
+    unless-fair : (t : Bool) (n : ℕ) (x : Answer) → (t ≡ false → n ≡ 0 → ⊥) → (t ≡ true → Fair b slip [] x) → Fair b slip [] (unlessAnswer t n b x)
     unless-fair true n x d h = h refl
     unless-fair false n x d h = refuse-fair n (d refl)
 
-    done-fair : (c s : List ℕ) → good current c ≡ true → Fair b slip (answer 0 c s)
-    done-fair c s g = record { block = λ d. absurd (d refl); zero = λ d m. absurd (d refl); lent = λ d m. absurd (d refl); isGood = λ z. g }
+    done-fair : (c s : List ℕ) → good current c ≡ true → Fair b slip [] (answer 0 c s)
+    done-fair c s g = record { block = λ d. absurd (d refl); buffer = λ d. absurd (d refl); zero = λ d m. absurd (d refl); lent = λ d m. absurd (d refl); isGood = λ z. g }
 
 -- the checks let only a good block pass
 checks-good : (b : List ℕ) (n : ℕ) → cond (good current b) n 1 ≡ 0 → good current b ≡ true
@@ -181,45 +184,70 @@ checks-good b n e = go (good current b) refl e
 
 module _ (b slip : List ℕ) where
   -- what is answered past the checks
-  asking-fair : (n : ℕ) (x : Answer) → (n ≡ 0 → good current b ≡ true) → (length slip ≡ 16 → good current b ≡ true → Fair b slip x) → Fair b slip (asking n b slip x)
+  asking-fair : (n : ℕ) (x : Answer) → (n ≡ 0 → good current b ≡ true) → (length slip ≡ 16 → good current b ≡ true → Fair b slip [] x) → Fair b slip [] (asking n b slip x)
   asking-fair n x c h =
       with-slip-fair b slip (unlessAnswer (eqb n 0) n b x) (λ l. unless-fair b slip l (eqb n 0) n x (eqb-false n 0) (λ e. h l (c (eqb-true n 0 e))))
 
-  place-fair : length slip ≡ 16 → good current b ≡ true → (p : Place) → Fair b slip (placeAnswer b p)
+  place-fair : length slip ≡ 16 → good current b ≡ true → (p : Place) → Fair b slip [] (placeAnswer b p)
   place-fair l g Nowhere = refuse-fair b slip l 5 (λ z. omega (arith, z))
   place-fair l g (Here a run) = done-fair b slip l b _ g
 
-  find-fair : (q : Query) → Fair b slip (find current q b slip)
+  find-fair : (q : Query) → Fair b slip [] (find current q b slip)
   unfolding find
   find-fair q = asking-fair (checkNumber current q b) _ (checks-good b (refusal q)) (λ l g. place-fair l g (foundPlace (contents current b) q))
 
-  allocate-fair : (q : Query) → Fair b slip (allocate current q b slip)
+  allocate-fair : (q : Query) → Fair b slip [] (allocate current q b slip)
   unfolding allocate commandOutcome
   allocate-fair q = asking-fair (checkNumber current q b) _ (checks-good b (refusal q)) (λ l g. go l g (foundPlace (contents current b) q))
     where
-      reserving : length slip ≡ 16 → (a end : ℕ) (o : Outcome) → good current (o .block) ≡ true → Fair b slip (reserved b a end o)
+      reserving : length slip ≡ 16 → (a end : ℕ) (o : Outcome) → good current (o .block) ≡ true → Fair b slip [] (reserved b a end o)
       reserving l a end o h = by (eqb (o .number) 0) refl
         where
-          by : (t : Bool) → eqb (o .number) 0 ≡ t → Fair b slip (cond t (answer 0 (o .block) (slipOf a end)) (refuse (o .number) b))
+          by : (t : Bool) → eqb (o .number) 0 ≡ t → Fair b slip [] (cond t (answer 0 (o .block) (slipOf a end)) (refuse (o .number) b))
           by true e = done-fair b slip l (o .block) _ h
           by false e = refuse-fair b slip l (o .number) (eqb-false (o .number) 0 e)
 
-      go : length slip ≡ 16 → good current b ≡ true → (p : Place) → Fair b slip (allocateAnswer current b (q .size .0) p)
+      go : length slip ≡ 16 → good current b ≡ true → (p : Place) → Fair b slip [] (allocateAnswer current b (q .size .0) p)
       go l g Nowhere = refuse-fair b slip l 5 (λ z. omega (arith, z))
       go l g (Here a run) =
           let o : Outcome = changeRange current Taken (Fill (tag 0 0)) (a .0) (q .size .0) b in
           let h : good current (o .block) ≡ true = rw g at (command-good b g (command Reserve (a .0) (q .size .0))) in
           reserving l (a .0) (run .end .0) o h
 
-  next-free-fair : (from node wish : ℕ) → Fair b slip (nextFree current from node wish b slip)
+  next-free-fair : (from node wish : ℕ) → Fair b slip [] (nextFree current from node wish b slip)
   unfolding nextFree
   next-free-fair from node wish =
       asking-fair (nextNumber current node wish b) _ (checks-good b (cond (askable node wish) 0 2))
       (λ l g. place-fair l g (nextPlace (contents current b) from node wish))
 
+  pages-fair : (page : ℕ) (buffer : List ℕ) → Fair b slip buffer (handOver current page b buffer slip)
+  unfolding handOver
+  pages-fair page buffer = go (eqb (length slip) 16) refl (good current b) refl
+    where
+      go : (t : Bool) → eqb (length slip) 16 ≡ t → (u : Bool) → good current b ≡ u
+          → Fair b slip buffer (cond t (cond u (given b (piecesFrom (runsOf (contents current b)) page) buffer) (withBuffer buffer (refuse 1 b))) (withBuffer buffer (answer 8 b slip)))
+      go true l true g =
+          record { block = λ d. refl; buffer = λ d. absurd (d refl); zero = λ d m. absurd (d refl); lent = λ d m. absurd (d refl); isGood = λ z. g }
+      go true l false g =
+          record {
+            block = λ d. refl;
+            buffer = λ d. refl;
+            zero = λ d m. refl;
+            lent = λ d m. absurd (m (eqb-true (length slip) 16 l));
+            isGood = λ z. absurd (omega (arith, z));
+          }
+      go false l u g =
+          record {
+            block = λ d. refl;
+            buffer = λ d. refl;
+            zero = λ d m. absurd (eqb-false (length slip) 16 l m);
+            lent = λ d m. refl;
+            isGood = λ z. absurd (omega (arith, z));
+          }
+
 -- ---- every call
 
-fair : (c : Call) (b : List ℕ) → Fair b (slipLent c) (answerOf c b)
+fair : (c : Call) (b : List ℕ) → Fair b (slipLent c) (bufferLent c) (answerOf c b)
 unfolding answerOf
 fair toFresh b = plain-fair b _ (fresh-fair b)
 fair (toSet limit direction) b = plain-fair b _ (set-fair b limit direction)
@@ -229,13 +257,14 @@ fair (toTrim align) b = plain-fair b _ (trim-fair b align)
 fair (toFind q slip) b = find-fair b slip q
 fair (toNextFree from node wish slip) b = next-free-fair b slip _ _ _
 fair (toAllocate q slip) b = allocate-fair b slip q
+fair (toPages page buffer slip) b = pages-fair b slip page buffer
 fair (toIntake report) b = plain-fair b _ (intake-fair b report)
 fair (toIntakeTree tree) b = plain-fair b _ (tree-fair b tree)
 fair (toIntakeTrees board service) b = plain-fair b _ (pair-fair b board service)
 fair (toConvert old) b = plain-fair b _ (convert-fair b old)
 
 pub refusal-sentence : RefusalSentence
-refusal-sentence c b d = let f = fair c b in record { block = f .block d; zero = f .zero d; lent = f .lent d }
+refusal-sentence c b d = let f = fair c b in record { block = f .block d; buffer = f .buffer d; zero = f .zero d; lent = f .lent d }
 
 pub done-sentence : DoneSentence
 done-sentence c b h = fair c b .isGood h

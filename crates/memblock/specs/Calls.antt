@@ -11,12 +11,13 @@ use Rattle.board.specs.Board.{intakeTree}
 use Rattle.board.specs.Pairs.{intakeTrees}
 use Rattle.fits.specs.declared.Query.{Query}
 use Rattle.search.specs.Answers.{Answer, answer, find, allocate, nextFree}
+use Rattle.pages.specs.Pages.{handOver}
 
 -- what a command on a range answers and leaves
 abbrev pub outcomeOf : Command → List ℕ → Outcome
 outcomeOf c b = commandOutcome current c b
 
--- a call of any of them; a slip is lent anew to each call that takes one
+-- a call of any of them; a slip, and a buffer to be filled, is lent anew to each call that takes one
 pub data Call : Type 0 where
   toFresh : Call
   toSet : (limit direction : ℕ) → Call
@@ -26,16 +27,17 @@ pub data Call : Type 0 where
   toFind : Query → (slip : List ℕ) → Call
   toNextFree : (from node wish : ℕ) → (slip : List ℕ) → Call
   toAllocate : Query → (slip : List ℕ) → Call
+  toPages : (page : ℕ) → (buffer slip : List ℕ) → Call
   toIntake : (report : List ℕ) → Call
   toIntakeTree : (tree : List ℕ) → Call
   toIntakeTrees : (board service : List ℕ) → Call
   toConvert : (old : List ℕ) → Call
 
--- a call without a slip leaves none
+-- a call without a slip or a buffer leaves none
 abbrev pub plain : Outcome → Answer
 plain o = answer (o .number) (o .block) []
 
--- the number, the block and the slip after a call, for any bytes
+-- the number, the block, the slip and the buffer after a call, for any bytes
 unfoldable pub answerOf : Call → List ℕ → Answer
 answerOf toFresh b = plain (fresh current b)
 answerOf (toSet limit direction) b = plain (set current limit direction b)
@@ -45,6 +47,7 @@ answerOf (toTrim align) b = plain (trim current align b)
 answerOf (toFind q slip) b = find current q b slip
 answerOf (toNextFree from node wish slip) b = nextFree current from node wish b slip
 answerOf (toAllocate q slip) b = allocate current q b slip
+answerOf (toPages page buffer slip) b = handOver current page b buffer slip
 answerOf (toIntake report) b = plain (intakeE820 current report b)
 answerOf (toIntakeTree tree) b = plain (intakeTree current tree b)
 answerOf (toIntakeTrees board service) b = plain (intakeTrees current board service b)

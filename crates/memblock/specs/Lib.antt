@@ -4,6 +4,7 @@ pub mod Freed
 pub mod FreedTwice
 pub mod Lists
 pub mod Lookups
+pub mod Pages
 pub mod Refusals
 pub mod Cases
 pub mod Reports

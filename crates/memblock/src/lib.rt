@@ -12,11 +12,11 @@ use tables::commands::on_range;
 ghost use mathlib.Core.Path.{_≡_};
 ghost use mathlib.Core.List.{[]};
 ghost use Rattle.fits.specs.Eligible.{query};
-ghost use Rattle.search.specs.Answers.{answer};
+ghost use Rattle.search.specs.Answers.{answer, withBuffer};
 ghost use Rattle.tables.specs.declared.commands.Verb.the-variants.{Add, Remove, Mark, Unmark, Reserve, Free};
 ghost use Rattle.range.specs.Outcomes.{tag};
 ghost use Rattle.tables.specs.Commands.{command};
-ghost use Rattle.memblock.specs.Calls.{toFresh, toSet, toSetImageEnd, toCommand, toTrim, toFind, toNextFree, toAllocate, toIntake, toIntakeTree, toIntakeTrees, toConvert, answerOf};
+ghost use Rattle.memblock.specs.Calls.{toFresh, toSet, toSetImageEnd, toCommand, toTrim, toFind, toNextFree, toAllocate, toPages, toIntake, toIntakeTree, toIntakeTrees, toConvert, answerOf};
 ghost use Rattle.memblock.specs.Lookups.{lookedUp};
 
 // Writes a fresh block over any 15,440 bytes.
@@ -166,6 +166,14 @@ pub extern "C" fn memblock_allocate(
         wish,
     };
     search::allocate::allocate(block, q, slip)
+}
+
+// Writes the free pages from page `from` on as pieces, as many as fit in the buffer, and in the slip how many and where the next one begins. The block stays.
+#[no_mangle]
+pub extern "C" fn memblock_pages(block: &[u8], from: u64, buffer: &mut [u8], slip: &mut [u8]) -> u32
+    ensures { λ r. ⌜ withBuffer (now (buffer .exit)) (answer r (now (block .entry)) (now (slip .exit))) ≡ answerOf (toPages from (now (buffer .entry)) (now (slip .entry))) (now (block .entry)) ⌝ }
+{
+    pages::hand_over(block, from, buffer, slip)
 }
 
 // Takes an E820 report in, whole or not at all.

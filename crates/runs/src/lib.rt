@@ -26,7 +26,7 @@ ghost use Rattle.fits.specs.Places.{placeOf};
 ghost use Rattle.runs.specs.Steps.{boundsLow, boundsHigh, Searchable, firstIn};
 
 // The first address past a record of a good table.
-fn past(r: Region) -> Address
+pub fn past(r: Region) -> Address
     requires { ⌜ endOf r < 18446744073709551616 ⌝ }
     ensures { λ a. ⌜ a .0 ≡ endOf r ⌝ }
 {
@@ -34,13 +34,13 @@ fn past(r: Region) -> Address
 }
 
 // Where a taken record begins and ends.
-struct Bounds {
-    base: Address,
-    end: Address,
+pub struct Bounds {
+    pub base: Address,
+    pub end: Address,
 }
 
 // The bounds of taken record `j`; behind the last, of one at the top that is never met.
-fn bounds_low(taken: &[u8], tcount: usize, j: usize) -> Bounds
+pub fn bounds_low(taken: &[u8], tcount: usize, j: usize) -> Bounds
     requires { ⌜ (24 * tcount ≤ length (now taken)) × (goodList Taken (readRegions tcount (now taken)) ≡ true) ⌝ }
     ensures { λ r. ⌜ r ≡ boundsLow tcount (now (taken .entry)) j ⌝ }
 {

@@ -1,7 +1,7 @@
 -- What find, next free and allocate answer and leave, for all inputs: refusals in document 01's order. Assumes nothing.
 use Prim.Native.Nat.{ℕ}
 use mathlib.Core.Bool.{Bool, cond, _&&_, _||_}
-use mathlib.Core.List.{List, _++_}
+use mathlib.Core.List.{List, [], _++_}
 use lib.Dec.{leb, eqb}
 use lib.ListN.{length, replicate}
 use Rattle.address.specs.Numbers.{powerOfTwo}
@@ -16,14 +16,20 @@ use Rattle.fits.specs.declared.Place.{Place}
 use Rattle.fits.specs.declared.Place.the-variants.{Here, Nowhere}
 use Rattle.seek.specs.Search.{foundPlace, nextPlace}
 
--- the number, and every byte of the block and of the answer slip after the call
+-- the number, and every byte of the block, of the answer slip and of the buffer that a call fills (E14) after the call
 pub record Answer : Type 0 where
   pub number : ℕ
   pub block : List ℕ
   pub slip : List ℕ
+  pub buffer : List ℕ
 
+-- of a call that fills no buffer: one of no bytes
 abbrev pub answer : ℕ → List ℕ → List ℕ → Answer
-answer n b slip = record { number = n; block = b; slip = slip }
+answer n b slip = record { number = n; block = b; slip = slip; buffer = [] }
+
+-- with what is in the buffer
+abbrev pub withBuffer : List ℕ → Answer → Answer
+withBuffer buffer a = record { number = a .number; block = a .block; slip = a .slip; buffer = buffer }
 
 -- a refusal leaves the block as lent, and a slip of 16 bytes all zero
 abbrev pub refuse : ℕ → List ℕ → Answer

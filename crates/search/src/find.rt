@@ -50,7 +50,7 @@ fn check(block: &[u8], q: Query) -> u32
 }
 
 // An answer slip that says nothing.
-fn clear_slip(slip: &mut [u8])
+pub fn clear_slip(slip: &mut [u8])
     requires { ⌜ length (now slip) ≡ 16 ⌝ }
     ensures { λ _. ⌜ now (slip .exit) ≡ replicate 16 0 ⌝ }
 {

@@ -16,7 +16,7 @@ use Rattle.regions.specs.Meaning.{top, top-is}
 use Rattle.regions.specs.Bytes.{readRegions}
 use Rattle.block.specs.declared.Layout.{Layout}
 use Rattle.block.specs.declared.Header.{Header}
-use Rattle.block.specs.Block.{current, capacity, offset, blockLength, Contents, readHeader, part, contents, good}
+use Rattle.block.specs.Block.{current, capacity, offset, Contents, readHeader, part, contents, good}
 use Rattle.block.proofs.Blocks.{lists-ok, good-contents, good-length, counted-room}
 use Rattle.regions.specs.Runs.{inOne}
 use Rattle.fits.specs.declared.Query.{Query}
@@ -48,25 +48,21 @@ window-is limit q start bound end s b e w is =
 
 -- ---- the parts of a good block
 
-module _ (b : List ℕ) (q : Query) (p : Ready b q) where
-  whole : length b ≡ blockLength current
-  whole = good-length current b (p .good)
+pub header-room : (b : List ℕ) → good current b ≡ true → 80 ≤ length b
+header-room b g = omega (arith, good-length current b g)
 
-  pub header-room : 80 ≤ length b
-  header-room = omega (arith, whole)
-
-  parts : Searchable (part current Memory b) (readHeader b .memory .count) (part current Taken b) (readHeader b .taken .count) q
-  unfolding contents capacity offset
-  parts =
-      let g = good-contents current b (p .good) in
-      record {
-        size = p .size;
-        align = p .align;
-        room-memory = counted-room current b (p .good) Memory;
-        room-taken = counted-room current b (p .good) Taken;
-        good-memory = lists-ok current (contents current b) g Memory;
-        good-taken = lists-ok current (contents current b) g Taken;
-      }
+parts : (b : List ℕ) (q : Query) → Ready b q → Searchable (part current Memory b) (readHeader b .memory .count) (part current Taken b) (readHeader b .taken .count) q
+unfolding contents capacity offset
+parts b q p =
+    let g = good-contents current b (p .good) in
+    record {
+      size = p .size;
+      align = p .align;
+      room-memory = counted-room current b (p .good) Memory;
+      room-taken = counted-room current b (p .good) Taken;
+      good-memory = lists-ok current (contents current b) g Memory;
+      good-taken = lists-ok current (contents current b) g Taken;
+    }
 
 pub parts-are : (L : Layout) → L ≡ current → (b : List ℕ) (h : Header) → h ≡ readHeader b → (p : Parts)
     → p ≡ record { middle = 80 + 24 * L .memory; end = 80 + 24 * L .memory + 24 * L .taken; memory = h .memory .count; taken = h .taken .count } → p ≡ partsOf b
@@ -82,19 +78,18 @@ module _ (b : List ℕ) (t : Parts) (is : t ≡ partsOf b) where
   unfolding offset
   taken-from = rw is (omega arith)
 
+  pub memory-room : good current b ≡ true → t .middle ≤ length b
+  unfolding offset
+  memory-room g = rw is (omega (arith, good-length current b g))
+
+  pub taken-room : good current b ≡ true → t .end ≤ length b
+  taken-room g = rw is (omega (arith, good-length current b g))
+
 module _ (b : List ℕ) (q : Query) (t : Parts) (is : t ≡ partsOf b) where
-  module _ (p : Ready b q) where
-    pub memory-room : t .middle ≤ length b
-    unfolding offset
-    memory-room = rw is (omega (arith, whole b q p))
-
-    pub taken-room : t .end ≤ length b
-    taken-room = rw is (omega (arith, whole b q p))
-
-    -- the parts as the code lends them
-    pub searchable : Searchable (take (t .middle - 80) (drop 80 b)) (t .memory) (take (t .end - t .middle) (drop (t .middle) b)) (t .taken) q
-    unfolding capacity offset
-    searchable = rw is (parts b q p)
+  -- the parts as the code lends them
+  pub searchable : Ready b q → Searchable (take (t .middle - 80) (drop 80 b)) (t .memory) (take (t .end - t .middle) (drop (t .middle) b)) (t .taken) q
+  unfolding capacity offset
+  searchable p = rw is (parts b q p)
 
   pub first-is : (v : Way) (f : Place)
       → f ≡ placeOf (firstIn v (readRegions (t .memory) (take (t .middle - 80) (drop 80 b))) (readRegions (t .taken) (take (t .end - t .middle) (drop (t .middle) b))) q)

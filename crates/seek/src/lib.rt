@@ -53,14 +53,14 @@ fn window(limit: Address, q: Query) -> Query
 }
 
 // Where the block's tables lie, from byte 80 to `middle` and from there to `end`, and how many records each has.
-struct Parts {
-    middle: usize,
-    end: usize,
-    memory: usize,
-    taken: usize,
+pub struct Parts {
+    pub middle: usize,
+    pub end: usize,
+    pub memory: usize,
+    pub taken: usize,
 }
 
-fn parts_of(block: &[u8]) -> Parts
+pub fn parts_of(block: &[u8]) -> Parts
     requires { ⌜ 80 ≤ length (now block) ⌝ }
     ensures { λ r. ⌜ r ≡ partsOf (now (block .entry)) ⌝ }
 {

@@ -46,6 +46,9 @@ functions! {
     has_memblock_allocate => memblock_allocate(
         block: *mut u8, len: usize, size: u64, alignment: u64, start: u64, end: u64,
         node: u32, wish: u32, slip: *mut u8, slip_len: usize);
+    has_memblock_pages => memblock_pages(
+        block: *const u8, len: usize, from: u64, buffer: *mut u8, buffer_len: usize,
+        slip: *mut u8, slip_len: usize);
     has_memblock_intake_e820 => memblock_intake_e820(
         block: *mut u8, len: usize, report: *const u8, report_len: usize);
     has_memblock_intake_tree => memblock_intake_tree(

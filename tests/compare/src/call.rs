@@ -19,6 +19,7 @@ pub enum Command {
     NextFree,
     Find,
     Allocate,
+    Pages,
     Intake,
     IntakeTree,
     IntakeTrees,
@@ -29,7 +30,7 @@ pub enum Command {
 use Command::*;
 
 impl Command {
-    pub const ALL: [Command; 18] = [
+    pub const ALL: [Command; 19] = [
         Fresh,
         Set,
         SetImageEnd,
@@ -43,6 +44,7 @@ impl Command {
         NextFree,
         Find,
         Allocate,
+        Pages,
         Intake,
         IntakeTree,
         IntakeTrees,
@@ -68,6 +70,7 @@ impl Command {
             NextFree => "memblock_next_free",
             Find => "memblock_find",
             Allocate => "memblock_allocate",
+            Pages => "memblock_pages",
             Intake => "memblock_intake_e820",
             IntakeTree => "memblock_intake_tree",
             IntakeTrees => "memblock_intake_trees",
@@ -76,7 +79,7 @@ impl Command {
         }
     }
 
-    /// The numbers that document 01 and requests E1, E4 and E6 to E10 allow.
+    /// The numbers that document 01 and requests E1, E4, E6 to E10 and E14 allow.
     pub fn allowed(self) -> &'static [u32] {
         match self {
             Fresh | SetImageEnd | Convert => &[0, 1],
@@ -88,6 +91,7 @@ impl Command {
             NextFree => &[0, 8, 1, 2, 5],
             Find => &[0, 8, 1, 2, 3, 4, 5],
             Allocate => &[0, 8, 1, 2, 3, 4, 5, 6],
+            Pages => &[0, 8, 1],
             Intake => &[0, 1, 10, 6],
             IntakeTree | IntakeTrees => &[0, 1, 11, 6],
             Lookup => &[0, 1, 2, 8, 11],
@@ -99,7 +103,7 @@ impl Command {
     }
 
     pub fn takes_slip(self) -> bool {
-        self.searches() || self == Lookup
+        self.searches() || matches!(self, Pages | Lookup)
     }
 
     pub fn on_taken(self) -> bool {
@@ -150,6 +154,11 @@ pub enum Call {
     },
     Find(Query),
     Allocate(Query),
+    /// With the buffer's bytes as they are lent.
+    Pages {
+        from: u64,
+        buffer: Arc<[u8]>,
+    },
     /// With the report's bytes.
     Intake(Arc<[u8]>),
     /// With the tree's bytes.
@@ -183,11 +192,20 @@ impl Call {
             Call::NextFree { .. } => NextFree,
             Call::Find(_) => Find,
             Call::Allocate(_) => Allocate,
+            Call::Pages { .. } => Pages,
             Call::Intake(_) => Intake,
             Call::IntakeTree(_) => IntakeTree,
             Call::IntakeTrees { .. } => IntakeTrees,
             Call::Lookup { .. } => Lookup,
             Call::Convert(_) => Convert,
+        }
+    }
+
+    /// The buffer's bytes as they are lent; none for a call that takes no buffer.
+    pub fn buffer(&self) -> &[u8] {
+        match self {
+            Call::Pages { buffer, .. } => buffer,
+            _ => &[],
         }
     }
 
@@ -261,6 +279,9 @@ impl Call {
                 ("node", q.node.into()),
                 ("wish", q.wish.into()),
             ],
+            Call::Pages { from, ref buffer } => {
+                vec![("from", from), ("buffer_length", buffer.len() as u64)]
+            }
             Call::Intake(ref report) => vec![("report_length", report.len() as u64)],
             Call::IntakeTree(ref board) => vec![("board_length", board.len() as u64)],
             Call::IntakeTrees {
@@ -292,7 +313,8 @@ impl Call {
         format!("{name}({})", words.join(", "))
     }
 
-    pub fn on_model(&self, block: &mut [u8], slip: &mut [u8]) -> u32 {
+    /// The call on the model; `buffer` holds what is lent as buffer.
+    pub fn on_model(&self, block: &mut [u8], slip: &mut [u8], buffer: &mut [u8]) -> u32 {
         match *self {
             Call::Fresh => model::fresh(block),
             Call::Set { limit, direction } => model::set(block, limit, direction),
@@ -327,6 +349,7 @@ impl Call {
             Call::NextFree { from, node, wish } => model::next_free(block, from, node, wish, slip),
             Call::Find(query) => model::find(block, &query, slip),
             Call::Allocate(query) => model::allocate(block, &query, slip),
+            Call::Pages { from, .. } => model::pages(block, from, buffer, slip),
             Call::Intake(ref report) => model::intake_e820(block, report),
             Call::IntakeTree(ref board) => model::intake_tree(block, board),
             Call::IntakeTrees {
@@ -346,11 +369,12 @@ impl Call {
     /// The same call on the archive; `sources` are lent in the place of its own.
     ///
     /// # Safety
-    /// Each source is a pointer to so many bytes, of which block and slip have none.
+    /// Each source is a pointer to so many bytes, of which block, slip and buffer have none.
     pub unsafe fn on_archive(
         &self,
         block: &mut [u8],
         slip: &mut [u8],
+        buffer: &mut [u8],
         sources: &[(*const u8, usize)],
     ) -> u32 {
         let (b, len) = (block.as_mut_ptr(), block.len());
@@ -417,6 +441,10 @@ impl Call {
                     s,
                     slip_len,
                 ),
+                Call::Pages { from, .. } => {
+                    let (to, to_len) = (buffer.as_mut_ptr(), buffer.len());
+                    archive::memblock_pages(b, len, from, to, to_len, s, slip_len)
+                }
                 Call::Intake(_) => archive::memblock_intake_e820(b, len, from, from_len),
                 Call::IntakeTree(_) => archive::memblock_intake_tree(b, len, from, from_len),
                 Call::IntakeTrees { .. } => {

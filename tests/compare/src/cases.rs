@@ -1,4 +1,4 @@
-//! The twelve cases of document 01 and those of requests E1 and E3 to E10, run through
+//! The twelve cases of document 01 and those of requests E1, E3 to E10 and E14, run through
 //! the archive.
 
 use crate::blocks::{get_u64, read_recs};
@@ -13,6 +13,9 @@ use std::sync::Arc;
 use trees::node::{reg, word};
 use trees::random::chain;
 use trees::{stored, Break, Node, Sketch, Tree};
+
+/// The page that is answered where no piece is left.
+const NO_PAGE: u64 = 1 << 52;
 
 const TOP_DOWN: u32 = 0;
 const BOTTOM_UP: u32 = 1;
@@ -190,6 +193,42 @@ impl Case<'_> {
         self.asks(Call::Allocate(query(size, alignment)), wanted);
     }
 
+    /// Pages from one on, with a buffer of so many bytes: what is written and answered.
+    fn pages(&mut self, from: u64, length: usize, pieces: &[(u64, u32)], next: u64) {
+        let mut wanted = vec![0x5A; length];
+        let buffer = wanted.clone().into();
+        let call = Call::Pages { from, buffer };
+        let before = self.block.clone();
+        self.asks(call.clone(), Ok((pieces.len() as u64, next)));
+        for (place, &(page, order)) in wanted.chunks_exact_mut(PIECE_LEN).zip(pieces) {
+            place[..8].copy_from_slice(&page.to_le_bytes());
+            place[8..].copy_from_slice(&order.to_le_bytes());
+        }
+        let what = format!("buffer of {}", call.text());
+        self.expect(&what, self.desk.buffer.clone(), wanted);
+        self.expect("block", self.block.clone(), before);
+    }
+
+    /// All pages: from page 0 with more room than is needed, and from the first and the last
+    /// pieces, from inside them and behind them with room for one piece.
+    fn all_pages(&mut self, pieces: &[(u64, u32)]) {
+        let length = (pieces.len() + 1) * PIECE_LEN;
+        self.pages(0, length, pieces, NO_PAGE);
+        let page_of = |i: usize| pieces.get(i).map_or(NO_PAGE, |piece: &(u64, u32)| piece.0);
+        for (i, &(page, order)) in pieces.iter().enumerate() {
+            if i >= 24 && i + 4 < pieces.len() {
+                continue;
+            }
+            self.pages(page, PIECE_LEN, &pieces[i..i + 1], page_of(i + 1));
+            let behind = pieces.get(i + 1..i + 2).unwrap_or(&[]);
+            for from in [page + 1, page + (1 << order) / 2 + 1, page + (1 << order)] {
+                if from > page && from <= page_of(i + 1) {
+                    self.pages(from, PIECE_LEN, behind, page_of(i + 2));
+                }
+            }
+        }
+    }
+
     fn next_free(&mut self, from: u64, wanted: Answer) {
         self.next_free_of(from, 0, wanted);
     }
@@ -231,7 +270,7 @@ fn query(size: u64, alignment: u64) -> Query {
 }
 
 pub fn run(desk: &mut Desk) -> u32 {
-    let cases: [fn(&mut Desk); 79] = [
+    let cases: [fn(&mut Desk); 88] = [
         printed,
         one,
         two_and_three,
@@ -291,6 +330,15 @@ pub fn run(desk: &mut Desk) -> u32 {
         free_at_the_top,
         free_and_full_table,
         free_alone_asks,
+        pages_cut,
+        pages_of_large_runs,
+        pages_at_the_ends,
+        pages_of_touching_runs,
+        pages_and_flags,
+        pages_and_settings,
+        pages_of_full_tables,
+        pages_that_are_none,
+        pages_refused,
         tree_stored,
         tree_by_its_records,
         tree_broken,
@@ -2508,6 +2556,217 @@ fn lookup_refused(desk: &mut Desk) {
         };
         if number != wanted || wanted == number::BAD_TREE && slip != [0; SLIP_LEN] {
             desk.fail(&format!("{number} for the lookup, not {wanted}, or a slip"));
+        }
+    }
+}
+
+/// Buffers around each number of pieces, from every page of a small list.
+fn pages_cut(desk: &mut Desk) {
+    let mut c = Case::new(desk);
+    c.add(0x3000, 0xC000, 0);
+    let list = [(3, 0), (4, 2), (8, 2), (12, 1), (14, 0)];
+    c.all_pages(&list);
+    for from in 0..18 {
+        let first = list.iter().filter(|piece| piece.0 < from).count();
+        let left = &list[first..];
+        for length in (0..=72).filter(|length| [0, 1, 11].contains(&(length % PIECE_LEN))) {
+            let room = left.len().min(length / PIECE_LEN);
+            let next = left.get(room).map_or(NO_PAGE, |piece| piece.0);
+            c.pages(from, length, &left[..room], next);
+        }
+    }
+}
+
+/// Orders up to 10, and not above.
+fn pages_of_large_runs(desk: &mut Desk) {
+    let mut c = Case::new(desk);
+    c.add(0x1000, 4 * 0x40_0000 - 0x2000, 0);
+    let below = (0..10).map(|order| (1 << order, order));
+    let large = [(1024, 10), (2048, 10)];
+    let above = (0..10).rev().map(|order| (4096 - (2 << order), order));
+    let list: Vec<(u64, u32)> = below.chain(large).chain(above).collect();
+    c.all_pages(&list);
+    let mut c = Case::new(desk);
+    c.add(0, 80 * 0x40_0000, 63);
+    let list: Vec<(u64, u32)> = (0..80).map(|i| (i * 1024, 10)).collect();
+    c.all_pages(&list);
+    // From page 512 on, in the middle of a piece.
+    c.pages(512, 24, &[(1024, 10), (2048, 10)], 3072);
+    // All there is.
+    let mut c = Case::new(desk);
+    c.add(0, u64::MAX, 0);
+    c.pages(0, 24, &[(0, 10), (1024, 10)], 2048);
+    c.pages(NO_PAGE - 1025, 12, &[(NO_PAGE - 1024, 9)], NO_PAGE - 512);
+    c.pages(
+        NO_PAGE - 4,
+        48,
+        &[(NO_PAGE - 4, 1), (NO_PAGE - 2, 0)],
+        NO_PAGE,
+    );
+}
+
+/// Page 0, the last page, and pages that are not whole.
+fn pages_at_the_ends(desk: &mut Desk) {
+    const TOP_PAGE: u64 = NO_PAGE - 1;
+    for (base, size, list) in [
+        (0, 0x1000, &[(0, 0)][..]),
+        (0, 0xFFF, &[]),
+        (1, 0xFFF, &[]),
+        (1, 0x1000, &[]),
+        (1, 0x1FFE, &[]),
+        (1, 0x1FFF, &[(1, 0)]),
+        (0xFFF, 0x1001, &[(1, 0)]),
+        (0xFFF, 0x1002, &[(1, 0)]),
+        (0xFFF, 0x2001, &[(1, 0), (2, 0)]),
+        (0x800, 0x3000, &[(1, 0), (2, 0)]),
+        (0x1000, 0x2FFF, &[(1, 0), (2, 0)]),
+        (0x1000, 0x3000, &[(1, 0), (2, 1)]),
+        (0, 0x2000, &[(0, 1)]),
+        (0x5800, 0x400, &[]),
+        (u64::MAX - 0xFFF, 0x1000, &[]),
+        (u64::MAX - 0xFFE, 0xFFE, &[]),
+        (u64::MAX - 0x1FFF, 0x2000, &[(TOP_PAGE - 1, 0)]),
+        (u64::MAX - 0x1FFE, 0x2000, &[]),
+        (
+            u64::MAX - 0x2FFF,
+            0x3000,
+            &[(TOP_PAGE - 2, 0), (TOP_PAGE - 1, 0)],
+        ),
+    ] {
+        let mut c = Case::new(desk);
+        c.add(base, size, 0);
+        c.all_pages(list);
+    }
+    // Taken ranges cut like ends of memory.
+    let mut c = Case::new(desk);
+    c.add(0, 0x10000, 0);
+    c.reserve(0x3800, 0x3801);
+    c.reserve(0x6000, 0x7000);
+    c.reserve(0xFFFF, 0x20000);
+    c.all_pages(&[(0, 1), (2, 0), (4, 1), (7, 0), (8, 2), (12, 1), (14, 0)]);
+}
+
+/// A page in two runs is in no piece, and no piece is of two runs.
+fn pages_of_touching_runs(desk: &mut Desk) {
+    let mut c = Case::new(desk);
+    c.add(0, 0x1800, 0);
+    c.add(0x1800, 0x2800, 1);
+    c.add(0x4000, 0x2000, 2);
+    c.add_tag(0x6000, 0x2000, (HOTPLUG, 2), 0);
+    c.add_tag(0x8000, 0x4000, (MIRROR, 3), 0);
+    c.add_tag(0xC000, 0x4000, (HOTPLUG, 3), 0);
+    c.add_tag(0x10000, 0x8000, (HOTPLUG, 4), 0);
+    c.all_pages(&[(0, 0), (2, 1), (4, 1), (6, 1), (8, 2), (12, 2), (16, 3)]);
+}
+
+/// All flags but no-map.
+fn pages_and_flags(desk: &mut Desk) {
+    for flags in 0..=FLAGS {
+        let mut c = Case::new(desk);
+        c.add_tag(0x2000, 0x2000, (flags, 5), 0);
+        c.all_pages(if flags < NO_MAP { &[(2, 1)] } else { &[] });
+    }
+    let mut c = Case::new(desk);
+    c.add(0, 0x8000, 0);
+    c.mark(0x2000, 0x1001, NO_MAP, 0);
+    c.all_pages(&[(0, 1), (4, 2)]);
+}
+
+/// Limit, direction and image end are not looked at.
+fn pages_and_settings(desk: &mut Desk) {
+    let mut c = Case::new(desk);
+    c.add(0, 0x8000, 0);
+    c.reserve(0x5000, 0x6000);
+    for limit in [0, 1, 4096, 0x2000, 0x7000, u64::MAX] {
+        for image in [0, 1, 0x2000, 0x7800, u64::MAX] {
+            for direction in [TOP_DOWN, BOTTOM_UP] {
+                c.limit(limit, direction);
+                c.image(image);
+                c.pages(0, 48, &[(0, 2), (4, 0), (6, 1)], NO_PAGE);
+            }
+        }
+    }
+}
+
+/// The last records of both tables count.
+fn pages_of_full_tables(desk: &mut Desk) {
+    let mut c = Case::new(desk);
+    let list: Vec<(u64, u32)> = (0..MEMORY.capacity as u64).map(|i| (2 * i, 0)).collect();
+    for (page, _) in &list {
+        c.add(page * 0x1000, 0x1000, 0);
+    }
+    c.count(&MEMORY, MEMORY.capacity as u64);
+    c.all_pages(&list);
+    let mut c = taken_comb(desk);
+    let list: Vec<(u64, u32)> = (0..TAKEN.capacity as u64).map(|i| (2 * i + 1, 0)).collect();
+    c.add(0, 0x2000 * TAKEN.capacity as u64, 0);
+    c.all_pages(&list);
+    c.range(
+        Command::Reserve,
+        0x2000 * TAKEN.capacity as u64 - 0x1000,
+        1,
+        0,
+    );
+    c.all_pages(&list[..list.len() - 1]);
+}
+
+/// No free page at all, and pages above all there are.
+fn pages_that_are_none(desk: &mut Desk) {
+    let mut c = Case::new(desk);
+    for full in [false, true] {
+        if full {
+            c.add(0, u64::MAX, 0);
+        }
+        let froms = [
+            NO_PAGE - 1,
+            NO_PAGE,
+            NO_PAGE + 1,
+            2 * NO_PAGE,
+            1 << 63,
+            u64::MAX,
+        ];
+        for from in froms.into_iter().chain((!full).then_some(0)) {
+            for length in [0, 11, 12, 100] {
+                c.pages(from, length, &[], NO_PAGE);
+            }
+        }
+    }
+    c.reserve(0, u64::MAX);
+    c.pages(0, 12, &[], NO_PAGE);
+}
+
+/// 8 for the slip, then 1 for the block; the buffer as it was.
+fn pages_refused(desk: &mut Desk) {
+    let mut c = m(desk);
+    let good = c.block.clone();
+    let mut bad = good.clone();
+    bad[52] = 1;
+    let call = Call::Pages {
+        from: 0,
+        buffer: vec![0x5A; 30].into(),
+    };
+    for block in [
+        good,
+        bad,
+        vec![0; EDITION_1.length()],
+        printed_bytes(1, 6224),
+    ] {
+        for length in 0..40 {
+            let is_good = block[0] == 2 && block[52] == 0;
+            if length == SLIP_LEN && is_good {
+                continue;
+            }
+            c.block = block.clone();
+            let mut slip = vec![0x77; length];
+            let number = c.desk.call(&call, &mut c.block, &mut slip);
+            let (wanted, slip_wanted) = match length {
+                SLIP_LEN => (1, vec![0; SLIP_LEN]),
+                _ => (8, vec![0x77; length]),
+            };
+            c.expect("number", number, wanted);
+            c.expect("slip", slip, slip_wanted);
+            c.expect("buffer", c.desk.buffer.clone(), vec![0x5A; 30]);
+            c.expect("block", c.block.clone(), block.clone());
         }
     }
 }

@@ -6,6 +6,7 @@ use crate::call::{Call, Command};
 use crate::frees::Frees;
 use crate::images::Images;
 use crate::limits::Sides;
+use crate::pages::Pages;
 use crate::runs::Runs;
 use crate::wishes::Wishes;
 use model::layout::{number, Body, EDITION_1, MEMORY, REPORT_ENTRY_LEN, TAKEN};
@@ -162,8 +163,12 @@ pub struct Desk {
     pub wishes: Wishes,
     pub images: Images,
     pub frees: Frees,
+    pub pages: Pages,
+    /// What the last call left in the buffer it was lent.
+    pub buffer: Vec<u8>,
     block_room: Lent,
     slip_room: Lent,
+    buffer_room: Lent,
     source_rooms: [Lent; SOURCES],
 }
 
@@ -181,19 +186,23 @@ impl Desk {
             wishes: Wishes::default(),
             images: Images::default(),
             frees: Frees::default(),
+            pages: Pages::default(),
+            buffer: Vec::new(),
             block_room: Lent::new(),
             slip_room: Lent::new(),
+            buffer_room: Lent::new(),
             source_rooms: std::array::from_fn(|_| Lent::new()),
         }
     }
 
-    /// Makes the call on both and leaves in `block` and `slip` what both left.
+    /// Makes the call on both and leaves in `block`, `slip` and `self.buffer` what both left.
     /// A function that the archive does not define is done by the model alone
     /// and is not counted.
     pub fn call(&mut self, call: &Call, block: &mut [u8], slip: &mut [u8]) -> u32 {
         let command = call.command();
+        self.buffer = call.buffer().to_vec();
         if !command.is_there() {
-            return call.on_model(block, slip);
+            return call.on_model(block, slip, &mut self.buffer);
         }
         self.calls += 1;
         let place = Where {
@@ -207,6 +216,8 @@ impl Desk {
         };
         self.block_room.fill(block, self.calls);
         self.slip_room.fill(slip, self.calls.wrapping_mul(7) + 3);
+        self.buffer_room
+            .fill(&self.buffer, self.calls.wrapping_mul(3) + 2);
         let sources = call.sources();
         for (i, (room, source)) in self.source_rooms.iter_mut().zip(&sources).enumerate() {
             room.fill(source.1, self.calls.wrapping_mul(5 + 4 * i as u64) + 1);
@@ -220,19 +231,26 @@ impl Desk {
 
         *NOW.lock().expect("never poisoned") = Some(place.clone());
         // The rooms are as many buffers, and each is filled.
-        let got =
-            unsafe { call.on_archive(self.block_room.bytes(), self.slip_room.bytes(), &lent) };
+        let got = unsafe {
+            call.on_archive(
+                self.block_room.bytes(),
+                self.slip_room.bytes(),
+                self.buffer_room.bytes(),
+                &lent,
+            )
+        };
         *NOW.lock().expect("never poisoned") = None;
         DONE.store(self.calls, Ordering::Relaxed);
 
         if self.without_model {
             block.copy_from_slice(self.block_room.bytes());
             slip.copy_from_slice(self.slip_room.bytes());
+            self.buffer.copy_from_slice(self.buffer_room.bytes());
             return got;
         }
         let before = block.to_vec();
         let slip_before = slip.to_vec();
-        let wanted = call.on_model(block, slip);
+        let wanted = call.on_model(block, slip, &mut self.buffer);
 
         let mut wrong = String::new();
         if got != wanted {
@@ -244,6 +262,7 @@ impl Desk {
         let written = [
             ("block", &mut self.block_room, &*block, &before[..]),
             ("slip", &mut self.slip_room, &*slip, &slip_before),
+            ("buffer", &mut self.buffer_room, &self.buffer, call.buffer()),
         ];
         let read = self.source_rooms.iter_mut().zip(&sources);
         let read = read.map(|(room, (what, source))| (*what, room, &source[..], &source[..]));
@@ -288,6 +307,9 @@ impl Desk {
         }
         if command == Command::Free && got != number::NOT_GOOD {
             self.frees.note(call, &before, got);
+        }
+        if command == Command::Pages && got == number::DONE {
+            self.pages.note(call, &before, &self.buffer, slip);
         }
         got
     }

@@ -498,8 +498,9 @@ fn later_calls(desk: &mut Desk, rng: &mut Rng, mut one: Vec<u8>, mut two: Vec<u8
         let mut slip_one = slip(rng, 3);
         let mut slip_two = slip_one.clone();
         let first = desk.call(&call, &mut one, &mut slip_one);
+        let buffer_one = desk.buffer.clone();
         let second = desk.call(&call, &mut two, &mut slip_two);
-        if (first, &one, &slip_one) != (second, &two, &slip_two) {
+        if (first, &one, &slip_one, &buffer_one) != (second, &two, &slip_two, &desk.buffer) {
             desk.fail(&format!("equal blocks answer {} differently", call.text()));
         }
     }

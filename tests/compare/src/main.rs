@@ -1,5 +1,5 @@
 //! Calls the archive and the model on equal bytes and compares the number and
-//! every byte of block, slip, report, trees, path, name and old block. See README.md.
+//! every byte of block, slip, buffer, report, trees, path, name and old block. See README.md.
 
 mod archive;
 mod blocks;
@@ -14,6 +14,7 @@ mod limits;
 mod lists;
 mod numbers;
 mod orders;
+mod pages;
 mod pairs;
 mod reports;
 mod runs;
@@ -39,10 +40,13 @@ const CALLS_PER_TREE: u64 = 60;
 /// One pair of trees that is read is asked for in this many calls of their part.
 const CALLS_PER_TREES: u64 = 60;
 
+/// One list of pages handed over to the end is asked for in this many calls of their part.
+const CALLS_PER_HANDOVER: u64 = 60;
+
 /// In the order of a whole run: what finds most in few calls comes first.
-const PARTS: [&str; 11] = [
-    "cases", "faults", "lengths", "editions", "damage", "trees", "pairs", "fills", "lists",
-    "orders", "walks",
+const PARTS: [&str; 12] = [
+    "cases", "faults", "lengths", "editions", "damage", "pages", "trees", "pairs", "fills",
+    "lists", "orders", "walks",
 ];
 
 struct Options {
@@ -143,7 +147,7 @@ fn main() {
             "cases" => {
                 let cases = cases::run(desk);
                 println!(
-                    "cases: all {cases} of document 01 and those of requests E1 and E3 to E10, {} calls",
+                    "cases: all {cases} of document 01 and those of requests E1, E3 to E10 and E14, {} calls",
                     desk.calls
                 );
             }
@@ -152,6 +156,7 @@ fn main() {
             "lengths" => lengths(desk, &there, options.share(4)),
             "editions" => editions(desk, &there, options.share(3)),
             "damage" => damage(desk, &there, options.share(13)),
+            "pages" => pages(desk, options.share(3)),
             "trees" => trees(desk, options.share(6)),
             "pairs" => pairs(desk, options.share(6)),
             "faults" => faults(desk, &there, options.share(8)),
@@ -175,6 +180,7 @@ fn main() {
     numbers_reached(desk);
     sides_met(desk);
     frees_met(desk);
+    pages_met(desk);
     println!("compare: {} calls, all equal", desk.calls);
 }
 
@@ -230,6 +236,13 @@ fn frees_met(desk: &Desk) {
     let commands = [Command::Reserve, Command::Free, Command::Allocate];
     if commands.into_iter().all(Command::is_there) {
         tell("frees", desk.frees.told());
+    }
+}
+
+/// Pages were handed over on every side of buffers, pieces and runs.
+fn pages_met(desk: &Desk) {
+    if Command::Pages.is_there() {
+        tell("pages", desk.pages.told());
     }
 }
 
@@ -354,6 +367,44 @@ fn orders(desk: &mut Desk, calls: u64) {
             floor / 20,
         ),
         ("reports refused in all orders", tally.refused, floor / 20),
+    ] {
+        if count < floor {
+            stop(&format!(
+                "only {count} {what} were met, at least {floor} asked for"
+            ));
+        }
+    }
+}
+
+/// Free pages of boards with many of them.
+fn pages(desk: &mut Desk, calls: u64) {
+    if !Command::Pages.is_there() {
+        println!("pages: no hand over of pages in the archive");
+        return;
+    }
+    let before = desk.calls;
+    let tally = pages::run(desk, before + calls);
+    println!(
+        "pages: {} calls on {} boards ({} of more pieces than are written, {} with both tables \
+         full), {} lists handed over to the end in {} calls, {} of more than one call, {} pieces; \
+         {} starts at, in and beside pieces, {} at 2^52 or above",
+        desk.calls - before,
+        desk.turn,
+        tally.long,
+        tally.full,
+        tally.lists,
+        tally.resumed,
+        tally.in_parts,
+        tally.pieces,
+        tally.starts,
+        tally.above,
+    );
+    let floor = calls / CALLS_PER_HANDOVER;
+    for (what, count, floor) in [
+        ("lists handed over to the end", tally.lists, floor),
+        ("lists of more than one call", tally.in_parts, floor / 2),
+        ("boards with both tables full", tally.full, floor / 20),
+        ("boards with more pieces", tally.long, floor / 20),
     ] {
         if count < floor {
             stop(&format!(
@@ -631,6 +682,9 @@ fn fills(desk: &mut Desk, there: &[Command], calls: u64) {
         }
         // More where there is no room for what is found.
         let times = if t == TAKEN.capacity { 8 } else { 2 };
+        if t == TAKEN.capacity {
+            pages::at_the_last_taken(desk, rng, &bytes);
+        }
         for turn in 0..times {
             images::around(desk, rng, &near, &bytes);
             wishes::inside(desk, rng, &bytes);

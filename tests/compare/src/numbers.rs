@@ -4,6 +4,7 @@ use crate::blocks::{get_u64, read_recs, some_flags, Rec};
 use crate::call::{Call, Command};
 use crate::editions;
 use crate::flattened;
+use crate::pages;
 use crate::pairs;
 use crate::reports;
 use crate::rng::Rng;
@@ -28,6 +29,24 @@ const SPECIAL: [u64; 18] = [
     u64::MAX - 4094,
     u64::MAX - 2,
     u64::MAX - 1,
+    u64::MAX,
+];
+
+/// Page numbers at an edge of pieces or of the space, and above it.
+const PAGE_NUMBERS: [u64; 14] = [
+    1,
+    2,
+    1023,
+    1024,
+    1025,
+    1 << 32,
+    (1 << 51) - 1,
+    1 << 51,
+    (1 << 52) - 1024,
+    (1 << 52) - 1,
+    1 << 52,
+    (1 << 52) + 1,
+    1 << 63,
     u64::MAX,
 ];
 
@@ -343,6 +362,26 @@ impl Near {
         }
     }
 
+    /// A page: 0, one at a free run's ends or inside it, often where a large piece may begin,
+    /// an address' page, an address taken for a page, a special number, or any.
+    pub fn page(&self, rng: &mut Rng) -> u64 {
+        match rng.below(20) {
+            0..=2 => 0,
+            3 => rng.pick(&PAGE_NUMBERS),
+            4 => self.address(rng),
+            5 => rng.any_size(),
+            6 | 7 => {
+                let page = self.address(rng) / PAGE_LEN as u64;
+                rng.beside(page)
+            }
+            _ if self.runs.is_empty() => rng.below(64),
+            _ => {
+                let run = rng.pick(&self.runs);
+                pages::some_page(rng, &run)
+            }
+        }
+    }
+
     /// A call with each checked number at fault in `faults` of 100 calls.
     pub fn call(&self, rng: &mut Rng, command: Command, faults: u64) -> Call {
         match command {
@@ -388,6 +427,10 @@ impl Near {
             },
             Command::Find => Call::Find(self.query(rng, faults)),
             Command::Allocate => Call::Allocate(self.query(rng, faults)),
+            Command::Pages => Call::Pages {
+                from: self.page(rng),
+                buffer: pages::some_buffer(rng).into(),
+            },
             Command::Intake => Call::Intake(reports::some(rng, self, faults).into()),
             Command::IntakeTree => Call::IntakeTree(flattened::some(rng, self, faults).into()),
             Command::IntakeTrees => pairs::some(rng, self, faults),

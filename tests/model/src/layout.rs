@@ -116,6 +116,15 @@ pub const USABLE: u32 = 1;
 /// Memory is trimmed by this at the end of an intake.
 pub const INTAKE_STEP: u64 = 4096;
 
+/// The free pages, since request E14: a page's addresses,
+pub const PAGE_LEN: u128 = 4096;
+/// the pages there are,
+pub const PAGES: u128 = SPACE / PAGE_LEN;
+/// the largest order of a piece, which is 2^order pages,
+pub const LARGEST_ORDER: u32 = 10;
+/// and a piece's bytes: u64 page, u32 order, little-endian.
+pub const PIECE_LEN: usize = 12;
+
 /// A flattened tree, since request E8: big-endian words.
 pub mod tree {
     pub const WORD_LEN: usize = 4;

@@ -1,8 +1,9 @@
 //! A second program for the memory tables of document 01, the E820 intake of
 //! request E1, the limit of request E3, the larger block of request E4, the run's
 //! end of request E5, the flags and wishes of request E6, the image end of request
-//! E7, the tree of request E8, the two trees of request E9 and the frees of request E10,
-//! written from those pages alone, to be compared with the library call by call.
+//! E7, the tree of request E8, the two trees of request E9, the frees of request E10 and
+//! the free pages of request E14, written from those pages alone, to be compared with the
+//! library call by call.
 //!
 //! It shares no idea with a program that walks tables of records: a table is a
 //! map from boundary points to states, a search looks at whole free runs and
@@ -224,6 +225,51 @@ pub fn allocate(block: &mut [u8], query: &Query, slip: &mut [u8]) -> u32 {
         Ok((a, end))
     });
     tell(slip, answer)
+}
+
+/// Writes down the pieces of the free pages that begin at page `from` or above it, as
+/// many as fit, and tells how many and where the next one begins.
+pub fn pages(block: &[u8], from: u64, buffer: &mut [u8], slip: &mut [u8]) -> u32 {
+    if slip.len() != SLIP_LEN {
+        return BAD_SLIP;
+    }
+    let answer = good(block).map(|board| {
+        // Wish 1, any node: of every free run.
+        let runs = board.free_runs().into_iter();
+        let mut pieces = runs.flat_map(|run| cut(run, from.into()));
+        let mut count = 0;
+        for (place, (page, order)) in buffer.chunks_exact_mut(PIECE_LEN).zip(&mut pieces) {
+            place[..8].copy_from_slice(&narrow(page).to_le_bytes());
+            place[8..].copy_from_slice(&order.to_le_bytes());
+            count += 1;
+        }
+        (count, pieces.next().map_or(PAGES, |(page, _)| page))
+    });
+    tell(slip, answer)
+}
+
+/// A run's whole pages cut from the bottom into pieces: those that begin at page `from`
+/// or above it, as (page, order).
+fn cut(run: Run, from: u128) -> impl Iterator<Item = (u128, u32)> {
+    let mut page = run.lo.div_ceil(PAGE_LEN);
+    let past = run.hi / PAGE_LEN;
+    std::iter::from_fn(move || loop {
+        let fits = |order: &u32| page.is_multiple_of(1 << order) && page + (1 << order) <= past;
+        let order = (0..=LARGEST_ORDER).rev().find(fits)?;
+        let size = 1 << order;
+        if page >= from {
+            let begins = page;
+            page += size;
+            return Some((begins, order));
+        }
+        // Behind a piece of the largest order are more of it, as long as they fit: all
+        // that begin below are passed over at once.
+        page += if order == LARGEST_ORDER {
+            (from - page).div_ceil(size).min((past - page) / size) * size
+        } else {
+            size
+        };
+    })
 }
 
 /// The address that the rules of find fix and the end of the free run that holds

@@ -390,9 +390,11 @@ fn nodes<'a>(block: &'a [u8], strings: &'a [u8]) -> Result<Vec<Node<'a>>, Vec<Fa
             open
         })
         .collect();
-    // All is in one node if none is open behind the last token, and there alone.
+    // All is in one node if the first token begins one, and none is open behind the last
+    // token, and there alone.
+    let begun = levels.first() == Some(&1);
     let closed = levels.iter().position(|&level| level <= 0);
-    let one_root = closed.is_some_and(|at| at + 1 == levels.len());
+    let one_root = begun && closed.is_some_and(|at| at + 1 == levels.len());
     let in_order = said
         .windows(2)
         .all(|two| !matches!(two, [Token::End, Token::Property(..)]));

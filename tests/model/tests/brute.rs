@@ -4,9 +4,11 @@
 //! its own state. Every command is done address by address, eligibility is
 //! tried address by address straight from the definition, and the block is put
 //! together here with code of its own. For intakes a place of the window is a
-//! quarter of a page, so that there are pages to trim.
+//! quarter of a page, so that there are pages to trim; so for pages handed over, of
+//! which each is marked by itself.
 
 use model::Query;
+use std::collections::BTreeMap;
 
 const WINDOW: usize = 1420;
 /// The most records of memory, and of what is taken.
@@ -1274,4 +1276,229 @@ fn random_intakes_place_by_place() {
         split >= 100,
         "only {split} reports refused in one order alone"
     );
+}
+
+/// A page and an order.
+type Piece = (u64, u32);
+
+const NO_PAGE: u64 = 1 << 52;
+
+/// The places of a page.
+const QUARTERS: usize = 4;
+
+/// A toy of quarters of pages, the first at this address.
+fn paged_toy(origin: u128, width: usize) -> Toy {
+    let mut toy = Toy::new(origin, width);
+    toy.unit = 1024;
+    toy
+}
+
+/// Each page all of whose places are free and in one run, with that run.
+fn marked(toy: &Toy) -> BTreeMap<u64, usize> {
+    let free: Vec<Option<Tag>> = (toy.memory.iter().zip(&toy.taken))
+        .map(|(tag, taken)| tag.filter(|tag| tag.0 < 4 && !taken))
+        .collect();
+    let mut run_of = vec![None; free.len()];
+    for (run, (first, past, _)) in Toy::groups(&free).into_iter().enumerate() {
+        run_of[first..past].fill(Some(run));
+    }
+    // The runs of each page's places.
+    let mut pages: BTreeMap<u64, Vec<Option<usize>>> = BTreeMap::new();
+    for (i, run) in run_of.into_iter().enumerate() {
+        let page = (toy.address(i) / 4096) as u64;
+        pages.entry(page).or_default().push(run);
+    }
+    let whole = pages.into_iter().filter_map(|(page, runs)| {
+        let run = runs[0]?;
+        let same = runs.len() == QUARTERS && runs.iter().all(|&other| other == Some(run));
+        same.then_some((page, run))
+    });
+    whole.collect()
+}
+
+/// The pieces: the largest group of pages around each that begins at a multiple of its size
+/// and has all its pages in one run.
+fn pieces_of(marked: &BTreeMap<u64, usize>) -> Vec<Piece> {
+    let mut pieces = Vec::new();
+    for (&page, run) in marked {
+        let order = (0..=10u32).rev().find(|order| {
+            let size = 1 << order;
+            let first = page / size * size;
+            (first..first + size).all(|page| marked.get(&page) == Some(run))
+        });
+        let order = order.expect("the page itself");
+        if page % (1 << order) == 0 {
+            pieces.push((page, order));
+        }
+    }
+    pieces
+}
+
+/// What a call that is done writes and answers.
+fn handed(block: &[u8], from: u64, length: usize) -> (Vec<Piece>, u64) {
+    let mut buffer = vec![0xC3; length];
+    let mut slip = [0x77; 16];
+    assert_eq!(model::pages(block, from, &mut buffer, &mut slip), 0);
+    let long = |bytes: &[u8]| u64::from_le_bytes(bytes.try_into().unwrap());
+    let (count, next) = (long(&slip[..8]), long(&slip[8..]));
+    let (front, rest) = buffer.split_at(12 * count as usize);
+    assert!(rest.iter().all(|&byte| byte == 0xC3));
+    let pieces = front.chunks(12).map(|piece| {
+        let order = u32::from_le_bytes(piece[8..].try_into().unwrap());
+        (long(&piece[..8]), order)
+    });
+    (pieces.collect(), next)
+}
+
+/// One call, held against the list.
+fn one_call(block: &[u8], list: &[Piece], from: u64, length: usize) {
+    let left: Vec<Piece> = list.iter().copied().filter(|p| p.0 >= from).collect();
+    let room = length / 12;
+    let next = left.get(room).map_or(NO_PAGE, |piece| piece.0);
+    let wanted = (left[..room.min(left.len())].to_vec(), next);
+    assert_eq!(handed(block, from, length), wanted, "from {from:#x}");
+}
+
+/// Calls from page 0 on, each from the page that the last one answered, with buffers of these
+/// lengths, until none is left: the list, and each marked page once.
+fn in_turn(
+    block: &[u8],
+    marked: &BTreeMap<u64, usize>,
+    list: &[Piece],
+    mut length: impl FnMut() -> usize,
+) {
+    let mut got = Vec::new();
+    let mut from = 0;
+    while from != NO_PAGE {
+        let (pieces, next) = handed(block, from, length());
+        assert!(!pieces.is_empty() || next == NO_PAGE);
+        got.extend(pieces);
+        from = next;
+    }
+    assert_eq!(got, list);
+    let pages = got
+        .iter()
+        .flat_map(|&(page, order)| page..page + (1 << order));
+    assert!(pages.eq(marked.keys().copied()));
+}
+
+/// Calls from every page of a toy and beside it, with every buffer that its list has pieces
+/// for, and one that it has none for; then the list in every cut, if there are few.
+fn every_call(toy: &Toy) -> usize {
+    let block = toy.block().expect("few records");
+    let marked = marked(toy);
+    let list = pieces_of(&marked);
+    let first = (toy.origin / 4096) as u64;
+    let past = (toy.address(toy.memory.len()) / 4096) as u64;
+    for from in first.saturating_sub(1)..=past + 1 {
+        let left = list.iter().filter(|piece| piece.0 >= from).count();
+        for room in 0..=left + 1 {
+            one_call(&block, &list, from, 12 * room + [0, 11][room % 2]);
+        }
+    }
+    let cuts = list.len().saturating_sub(1);
+    if cuts <= 5 {
+        for mut cut in 0..1u32 << cuts {
+            // The next buffer ends behind the next piece that is cut behind.
+            in_turn(&block, &marked, &list, || {
+                let room = cut.trailing_zeros().min(31) + 1;
+                cut = cut >> (room - 1) >> 1;
+                12 * room as usize
+            });
+        }
+    }
+    list.len()
+}
+
+/// All boards of five pages that are not free or free of one of two tags, with the first page
+/// at every multiple below 8, at the bottom, far above and at the top.
+#[test]
+fn every_small_board_of_pages() {
+    let mut met = [0; 6];
+    for board in 0..3u32.pow(5) {
+        for at in 0..8u64 {
+            let page = [at, at + (1 << 30), (1 << 52) - 16 + at][board as usize % 3];
+            let mut toy = paged_toy(u128::from(page) * 4096, 5 * QUARTERS);
+            for i in 0..toy.memory.len() {
+                let state = board / 3u32.pow((i / QUARTERS) as u32) % 3;
+                toy.memory[i] = [None, Some((1, 0)), Some((2, 3))][state as usize];
+            }
+            met[every_call(&toy)] += 1;
+        }
+    }
+    assert!(met.iter().all(|&count| count > 0), "{met:?}");
+}
+
+/// Random boards whose runs begin and end inside pages too, with taken and no-map memory.
+#[test]
+fn random_boards_of_pages() {
+    let mut met = 0;
+    for seed in 0..120u64 {
+        let mut rng = Rng(seed);
+        let width = 20 * QUARTERS;
+        // Beginning inside a page too, and ending at the last place but one.
+        let quarter = rng.below(4) as u128 * 1024;
+        let top = (1 << 64) - 1024 - width as u128 * 1024;
+        let origin = [0, quarter, (1 << 40) + quarter, top][seed as usize % 4];
+        let mut toy = paged_toy(origin, width);
+        toy.limit = rng.next();
+        toy.image_end = rng.next();
+        toy.direction = rng.below(2) as u32;
+        let mut at = 0;
+        while at < width {
+            let past = (at + 1 + rng.below(30) as usize).min(width);
+            let tag = match rng.below(6) {
+                0 => None,
+                1 => Some((4 + rng.below(4) as u32, 0)),
+                _ => Some((rng.below(4) as u32, rng.below(2) as u32)),
+            };
+            toy.memory[at..past].fill(tag);
+            at = past;
+        }
+        for _ in 0..rng.below(5) {
+            let at = rng.below(width as u64) as usize;
+            let past = (at + 1 + rng.below(6) as usize).min(width);
+            toy.taken[at..past].fill(true);
+        }
+        met += every_call(&toy);
+        let (block, marked) = (toy.block().expect("few records"), marked(&toy));
+        for _ in 0..8 {
+            let list = pieces_of(&marked);
+            in_turn(&block, &marked, &list, || 12 + rng.below(60) as usize);
+        }
+    }
+    assert!(met > 500, "only {met} pieces");
+}
+
+/// Boards of thousands of pages, from every page.
+#[test]
+fn large_boards_of_pages() {
+    let mut orders = [0; 11];
+    for seed in 0..6u64 {
+        let mut rng = Rng(seed);
+        let page = [0u64, 700, (1 << 40) + 3, (1 << 52) - 3300][seed as usize % 4];
+        let width = 3300 * QUARTERS - 1;
+        let mut toy = paged_toy(u128::from(page) * 4096, width);
+        toy.memory.fill(Some((0, 0)));
+        for _ in 0..seed {
+            let at = rng.below(width as u64) as usize;
+            let tag = [None, Some((0, 1)), Some((4, 0))][rng.below(3) as usize];
+            let past = (at + 1 + rng.below(40) as usize).min(width);
+            toy.memory[at..past].fill(tag);
+        }
+        let block = toy.block().expect("few records");
+        let marked = marked(&toy);
+        let list = pieces_of(&marked);
+        for &(_, order) in &list {
+            orders[order as usize] += 1;
+        }
+        for from in page.saturating_sub(1)..page + 3301 {
+            one_call(&block, &list, from, rng.below(60) as usize);
+        }
+        for _ in 0..8 {
+            let most = 12 + 12 * rng.below(2 * list.len() as u64);
+            in_turn(&block, &marked, &list, || 12 + rng.below(most) as usize);
+        }
+    }
+    assert!(orders.iter().all(|&count| count > 0), "{orders:?}");
 }

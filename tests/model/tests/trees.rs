@@ -940,3 +940,27 @@ fn number_1_comes_before_11_and_11_before_6() {
         assert_eq!(intake(&mut [], &tree), 1);
     }
 }
+
+#[test]
+fn a_token_alone_is_no_root() {
+    let whole = bytes(&tree(Node::new("").with("a", [])));
+    assert_eq!(number(&whole), 0);
+    let at = get(&whole, STRUCTURE_AT) as usize;
+    let said = |tokens: [u32; 7]| {
+        let mut bytes = whole.clone();
+        for (i, token) in tokens.into_iter().enumerate() {
+            put(&mut bytes, at + 4 * i, token);
+        }
+        bytes
+    };
+    assert_eq!(said([1, 0, 3, 0, 0, 2, 9]), whole);
+    for tokens in [
+        [4, 4, 3, 0, 0, 4, 9],
+        [4, 4, 2, 4, 4, 4, 9],
+        [4, 4, 4, 4, 4, 4, 9],
+    ] {
+        let bytes = said(tokens);
+        assert_eq!(faults(&bytes), [Fault::Root], "{tokens:?}");
+        assert_eq!(number(&bytes), 11);
+    }
+}

@@ -35,6 +35,7 @@ const NO_MAP: u32 = 4;
 const ENTRY_LEN: usize = 20;
 const ENTRIES: usize = 128;
 const PAGE: u64 = 4096;
+const PAGE_NUMBERS: u64 = 1 << 52;
 
 fn mutant(k: u32) -> bool {
     static CHOSEN: OnceLock<u32> = OnceLock::new();
@@ -1213,6 +1214,375 @@ pub unsafe extern "C" fn memblock_allocate(
         tell(slip, Err(number));
     }
     number
+}
+
+/// The free gaps whose pages are handed over.
+fn handed_gaps(tables: &Block) -> Vec<(u64, u64)> {
+    let mut list: Vec<Rec> = Vec::new();
+    for rec in &tables.memory {
+        let joined = match list.last() {
+            Some(last) if last.end == rec.base => {
+                // mutant 343: pages: runs of two tags that touch are one
+                // mutant 344: pages: runs of one node that touch are one
+                // mutant 345: pages: runs of equal flags that touch are one
+                mutant(343)
+                    || mutant(344) && last.node == rec.node && last.flags | rec.flags < NO_MAP
+                    || mutant(345) && last.flags == rec.flags
+            }
+            _ => false,
+        };
+        match list.last_mut() {
+            Some(last) if joined => last.end = rec.end,
+            _ => list.push(*rec),
+        }
+    }
+    let mut handed = Vec::new();
+    for (i, rec) in list.iter().enumerate() {
+        // mutant 346: pages: no-map memory counts
+        // mutant 347: pages: hotplug memory does not count
+        // mutant 348: pages: mirror memory does not count
+        // mutant 349: pages: only node 0 counts
+        // mutant 350: pages: the last record of a full memory table does not count
+        let counts = (rec.flags & NO_MAP == 0 || mutant(346))
+            && !(mutant(347) && rec.flags & HOTPLUG != 0)
+            && !(mutant(348) && rec.flags & MIRROR != 0)
+            && !(mutant(349) && rec.node != 0)
+            && !(mutant(350) && i == NOW.capacity[0] - 1);
+        if !counts {
+            continue;
+        }
+        let taken = match tables.taken.len() {
+            // mutant 351: pages: what is taken counts
+            _ if mutant(351) => &[],
+            // mutant 352: pages: the last record of a full taken table is not looked at
+            512 if mutant(352) => &tables.taken[..511],
+            _ => &tables.taken[..],
+        };
+        let mut inside = gaps(rec, taken);
+        // mutant 353: pages: of a record only the first gap counts
+        // mutant 354: pages: the gap behind the last taken range of a record does not count
+        if mutant(353) {
+            inside.truncate(1);
+        } else if mutant(354) && inside.len() > 1 && inside.last().map(|gap| gap.1) == Some(rec.end)
+        {
+            inside.pop();
+        }
+        handed.extend(inside);
+    }
+    handed
+}
+
+/// The whole pages of a gap, as the first and the one past the last.
+fn whole_pages(tables: &Block, (lo, hi): (u64, u64)) -> (u64, u64) {
+    let (mut lo, mut hi) = (lo, hi);
+    // mutant 355: pages: nothing above the limit
+    // mutant 356: pages: nothing below the image end
+    // mutant 357: pages: a gap that begins below 4096 is passed over
+    // mutant 358: pages: a gap that the image end is in is passed over
+    if mutant(355) {
+        hi = hi.min(tables.limit);
+    } else if mutant(356) {
+        lo = lo.max(tables.image_end);
+    }
+    let passed =
+        mutant(357) && lo < PAGE || mutant(358) && (lo + 1..hi).contains(&tables.image_end);
+    if passed || lo >= hi {
+        return (0, 0);
+    }
+    // mutant 359: pages: the page that a gap begins inside of counts
+    // mutant 360: pages: the page that a gap ends inside of counts
+    // mutant 361: pages: the last page of all counts if all its addresses in a table are free
+    // mutant 362: pages: rounding up goes past the top and lands at page 0
+    // mutant 363: pages: page 0 does not count
+    // mutant 364: pages: the first page of a gap does not count
+    // mutant 365: pages: the last page of a gap does not count
+    let first = match lo.checked_add(PAGE - 1) {
+        _ if mutant(359) => lo / PAGE,
+        None if mutant(362) => 0,
+        None => PAGE_NUMBERS,
+        Some(x) => x / PAGE,
+    };
+    let first = match first {
+        0 if mutant(363) => 1,
+        first if mutant(364) => first + 1,
+        first => first,
+    };
+    let past = match hi / PAGE {
+        _ if mutant(360) => hi.div_ceil(PAGE),
+        past if mutant(361) && hi == u64::MAX => past + 1,
+        past if mutant(365) => past.saturating_sub(1),
+        past => past,
+    };
+    (first, past)
+}
+
+/// The order of the piece that begins at a page, with so many pages left from there on.
+fn order_of(page: u64, first: u64, left: u64) -> u32 {
+    // mutant 366: pages: order 11 is given
+    // mutant 367: pages: the largest order is 9
+    // mutant 368: pages: all pieces are of order 0
+    // mutant 369: pages: the largest order is 8
+    let most = match () {
+        _ if mutant(366) => 11,
+        _ if mutant(367) => 9,
+        _ if mutant(368) => 0,
+        _ if mutant(369) => 8,
+        _ => 10,
+    };
+    // mutant 370: pages: a piece begins anywhere
+    // mutant 371: pages: a piece begins at a multiple of its size from its gap's first page
+    // mutant 372: pages: page 0 is a multiple of nothing
+    let aligned = match page {
+        _ if mutant(370) => most,
+        page if mutant(371) => (page - first).trailing_zeros(),
+        0 if mutant(372) => 0,
+        page => page.trailing_zeros(),
+    };
+    // mutant 373: pages: a piece may end past its gap
+    // mutant 374: pages: a piece that ends where its gap does is cut
+    let fits = match left {
+        left if mutant(373) => left.next_power_of_two().trailing_zeros(),
+        left if mutant(374) && left > 1 => (left - 1).ilog2(),
+        left => left.ilog2(),
+    };
+    aligned.min(fits).min(most)
+}
+
+/// The pieces from a page on, one more than there is room for at most.
+fn pieces(tables: &Block, from: u64, room: usize) -> Vec<(u64, u32)> {
+    let mut list: Vec<(u64, u32)> = Vec::new();
+    for gap in handed_gaps(tables) {
+        let (first, past) = whole_pages(tables, gap);
+        // No piece lies on both sides of a multiple of the largest size.
+        // mutant 375: pages: the cut is begun anew at a multiple of 512 pages
+        // mutant 376: pages: the cut is begun anew at the page named
+        let step = match () {
+            _ if mutant(366) => 2048,
+            _ if mutant(375) => 512,
+            _ if mutant(376) => 1,
+            _ => 1024,
+        };
+        let mut page = first.max(from - from % step);
+        while page < past && list.len() <= room {
+            let order = order_of(page, first, past - page);
+            // mutant 377: pages: only pieces above the page named
+            // mutant 378: pages: the piece that the page named is in is given
+            // mutant 379: pages: of that piece the part from the page on is given as one of order 0
+            let end = page + (1 << order);
+            let begins = match () {
+                _ if mutant(377) => page > from,
+                _ if mutant(378) => end > from,
+                _ => page >= from,
+            };
+            if begins {
+                list.push((page, order));
+            } else if mutant(379) && end > from {
+                list.push((from, 0));
+            }
+            page = end;
+        }
+    }
+    list
+}
+
+/// # Safety
+/// As above; no two share a byte.
+#[no_mangle]
+pub unsafe extern "C" fn memblock_pages(
+    block: *const u8,
+    len: usize,
+    from: u64,
+    buffer: *mut u8,
+    buffer_len: usize,
+    slip: *mut u8,
+    slip_len: usize,
+) -> u32 {
+    let b = lent(block, len);
+    let to = lent_mut(buffer, buffer_len);
+    // mutant 380: pages: a bad block is seen before a bad slip
+    if mutant(380) && parse(b).is_none() {
+        return 1;
+    }
+    if slip_len != 16 {
+        // mutant 381: pages: 8 clears the buffer
+        // mutant 382: pages: 8 clears the slip
+        // mutant 383: pages: a longer slip is written
+        if mutant(381) {
+            to.fill(0);
+        } else if mutant(382) {
+            lent_mut(slip, slip_len).fill(0);
+        }
+        if !mutant(383) || slip_len < 16 {
+            return 8;
+        }
+    }
+    let slip = lent_mut(slip, slip_len);
+    // mutant 427: pages: an edition 1 block is read too
+    let old = parse_as(b, &OLD).filter(|_| mutant(427));
+    let Some(tables) = parse(b).or(old) else {
+        // mutant 384: pages: 1 clears the buffer
+        // mutant 385: pages: 1 leaves the slip as it is
+        // mutant 386: pages: 1 answers 2^52
+        match () {
+            _ if mutant(384) => to.fill(0),
+            _ if mutant(385) => return 1,
+            _ if mutant(386) => {
+                tell(slip, Ok((0, PAGE_NUMBERS)));
+                return 1;
+            }
+            _ => {}
+        }
+        return tell(slip, Err(1));
+    };
+    // mutant 387: pages: of the page named the low 52 bits are looked at
+    // mutant 388: pages: of the page named the low half is looked at
+    // mutant 389: pages: the number named is an address
+    let from = match from {
+        from if mutant(387) => from % PAGE_NUMBERS,
+        from if mutant(388) => from & u64::from(u32::MAX),
+        from if mutant(389) => from / PAGE,
+        from => from,
+    };
+    // mutant 390: pages: 5 where there is no free page
+    // mutant 391: pages: 5 where no piece is left
+    let seen_from = if mutant(391) { from } else { 0 };
+    if (mutant(390) || mutant(391)) && pieces(&tables, seen_from, 0).is_empty() {
+        return tell(slip, Err(5));
+    }
+    // mutant 392: pages: a buffer that lacks one byte takes a piece more
+    // mutant 393: pages: a buffer of less than 24 bytes takes none
+    // mutant 394: pages: 64 pieces at most
+    // mutant 395: pages: a buffer that pieces fill takes one less
+    // mutant 396: pages: a buffer's length must be a multiple of 12
+    let room = match buffer_len / 12 {
+        _ if mutant(392) => (buffer_len + 1) / 12,
+        1 if mutant(393) => 0,
+        room if mutant(394) => room.min(64),
+        room if mutant(395) && room > 1 && buffer_len.is_multiple_of(12) => room - 1,
+        _ if mutant(396) && !buffer_len.is_multiple_of(12) => 0,
+        room => room,
+    };
+    let mut list = pieces(&tables, from, room);
+    // mutant 397: pages: the last piece of all is lost
+    if mutant(397) && list.len() <= room {
+        list.pop();
+    }
+    let next = list.get(room).map(|piece| piece.0);
+    list.truncate(room);
+    // mutant 398: pages: the pieces fall
+    // mutant 399: pages: two pieces of order 10 in a row are one of order 11
+    if mutant(398) {
+        list.reverse();
+    } else if mutant(399) {
+        list.dedup_by(|b, a| {
+            let one = a.1 == 10 && b.1 == 10 && a.0 + 1024 == b.0;
+            a.1 += u32::from(one);
+            one
+        });
+    }
+    for (i, &(page, order)) in list.iter().enumerate() {
+        let mut bytes = [0; 12];
+        // mutant 400: pages: the order is written over the page's upper half
+        // mutant 401: pages: the page is written big-endian
+        // mutant 402: pages: the order is written big-endian
+        // mutant 403: pages: the address is written, not the page
+        // mutant 404: pages: the number of pages is written, not the order
+        // mutant 405: pages: the order comes before the page
+        let page = if mutant(403) { page * PAGE } else { page };
+        let order = if mutant(404) { 1 << order } else { order };
+        bytes[..8].copy_from_slice(&page.to_le_bytes());
+        bytes[8..].copy_from_slice(&order.to_le_bytes());
+        match () {
+            _ if mutant(400) => bytes[4..8].copy_from_slice(&order.to_le_bytes()),
+            _ if mutant(401) => bytes[..8].reverse(),
+            _ if mutant(402) => bytes[8..].reverse(),
+            _ if mutant(405) => bytes.rotate_right(4),
+            _ => {}
+        }
+        buffer.add(12 * i).copy_from(bytes.as_ptr(), 12);
+    }
+    let written = (12 * list.len()).min(buffer_len);
+    // mutant 406: pages: the bytes behind the last piece are cleared
+    // mutant 407: pages: what is left of the buffer takes a part of the next piece
+    // mutant 408: pages: the byte behind the last piece is cleared
+    if mutant(406) {
+        to[written..].fill(0);
+    } else if mutant(407) {
+        if let Some(next) = next {
+            for (to, from) in to[written..].iter_mut().zip(next.to_le_bytes()) {
+                *to = from;
+            }
+        }
+    } else if mutant(408) && written < buffer_len {
+        to[written] = 0;
+    }
+    // mutant 428: pages: the byte behind the last piece counts the calls
+    static CALLS: AtomicU32 = AtomicU32::new(0);
+    if mutant(428) && written < buffer_len {
+        to[written] = CALLS.fetch_add(1, Ordering::Relaxed) as u8;
+    }
+    // mutant 409: pages: the count is one more where some are left
+    // mutant 410: pages: the count is in bytes
+    // mutant 411: pages: the count is the room
+    // mutant 412: pages: the count is of pages
+    let count = match list.len() as u64 {
+        count if mutant(409) => count + u64::from(next.is_some()),
+        count if mutant(410) => 12 * count,
+        _ if mutant(411) => room as u64,
+        _ if mutant(412) => list.iter().map(|piece| 1 << piece.1).sum(),
+        count => count,
+    };
+    let last = list.last();
+    // mutant 413: pages: the page of the last piece written is answered
+    // mutant 414: pages: the page behind the last piece written is answered
+    // mutant 415: pages: 2^52 is answered where the buffer is full
+    // mutant 416: pages: 0 is answered where the buffer is full
+    // mutant 417: pages: 0 is answered where none is left
+    // mutant 418: pages: the page behind the last piece is answered where none is left
+    // mutant 419: pages: 2^52 - 1 is answered where none is left
+    // mutant 420: pages: a page named above 2^52 is answered
+    // mutant 421: pages: a buffer that takes none answers the page named
+    // mutant 422: pages: a buffer that takes none answers 2^52
+    // mutant 423: pages: 2^64 - 1 is answered where none is left
+    let behind = last.map(|piece| piece.0 + (1 << piece.1));
+    let next = match (next, last) {
+        (Some(_), Some(last)) if mutant(413) => last.0,
+        (Some(next), _) if mutant(414) => behind.unwrap_or(next),
+        (Some(_), Some(_)) if mutant(415) => PAGE_NUMBERS,
+        (Some(_), Some(_)) if mutant(416) => 0,
+        (None, _) if mutant(417) => 0,
+        (None, _) if mutant(418) => behind.unwrap_or(PAGE_NUMBERS),
+        (None, _) if mutant(419) => PAGE_NUMBERS - 1,
+        (None, _) if mutant(420) => from.max(PAGE_NUMBERS),
+        (Some(_), None) if mutant(421) => from,
+        (Some(_), None) if mutant(422) => PAGE_NUMBERS,
+        (None, _) if mutant(423) => u64::MAX,
+        (next, _) => next.unwrap_or(PAGE_NUMBERS),
+    };
+    tell(slip, Ok((count, next)));
+    // mutant 424: pages: the pages handed over are taken
+    // mutant 425: pages: the image end is set to the end of what was handed over
+    if mutant(424) || mutant(425) {
+        let block = lent_mut(block.cast_mut(), len);
+        let mut taken = tables.taken.clone();
+        for (page, order) in &list {
+            let end = (page + (1 << order)) * PAGE;
+            if mutant(425) {
+                put_image_end(block, end);
+            } else {
+                taken = fill(&taken, page * PAGE, end, 0, 0);
+            }
+        }
+        if mutant(424) {
+            store(block, 1, &taken);
+        }
+    }
+    // mutant 426: pages: two pieces of order 0 that the buffer ends behind are one of order 1
+    if mutant(426) && count == 2 && list[0].1 == 0 && list[1] == (list[0].0 + 1, 0) {
+        to[8] = 1;
+        slip[0] = 1;
+    }
+    0
 }
 
 fn report_is_bad(r: &[u8]) -> bool {

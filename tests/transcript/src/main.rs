@@ -1,13 +1,16 @@
 //! Replays the boot program's transcript on the second program, line by line.
 //!
 //! `transcript NAME FILE`. For each call the line that the second program would
-//! have written, with its number, its block's sum and its slip, or its report's, trees' or
-//! old block's sum, must be the line that stands there; the same for a value that was
-//! looked up, and for both tables at the end.
+//! have written, with its number, its block's sum and its slip, or its report's, trees',
+//! old block's or buffer's sum, must be the line that stands there; the same for a value
+//! that was looked up, for the free pages when all are handed over, and for both tables at
+//! the end.
 //! Fails at the first difference, at a line it does not know, and when the
 //! transcript does not reach its end or leaves out a function, a number, a number of an
-//! intake of one tree or two or of a lookup, a flag, a wish, a way that a bottom-up allocation can go from the image's
-//! end, a second free of one range, or part of the memory map.
+//! intake of one tree or two, of a lookup or of a call for pages, a flag, a wish, a way that
+//! a bottom-up allocation can go from the image's end, a second free of one range, part of
+//! the memory map, a handover of all pages by buffers of several lengths, a page named inside
+//! a piece, or a buffer too short for one.
 
 use model::layout::*;
 use model::{Board, Direction, Query};
@@ -28,7 +31,12 @@ const REPORT_LEN: usize = (REPORT_ENTRIES + 1) * REPORT_ENTRY_LEN + GUARD;
 const TREE_LEN: usize = 32 * 1024 + GUARD;
 const SERVICE_LEN: usize = 2 * 1024 + GUARD;
 
-const FUNCTIONS: [&str; 18] = [
+/// The most pieces that a line names.
+const PIECES_FEW: usize = 5;
+/// The most bytes that are lent for pieces.
+const BUFFER_LEN: usize = 32768 * PIECE_LEN;
+
+const FUNCTIONS: [&str; 19] = [
     "memblock_fresh",
     "memblock_set",
     "memblock_set_image_end",
@@ -42,6 +50,7 @@ const FUNCTIONS: [&str; 18] = [
     "memblock_next_free",
     "memblock_find",
     "memblock_allocate",
+    PAGES_OF,
     "memblock_intake_e820",
     "memblock_intake_tree",
     "memblock_intake_trees",
@@ -50,11 +59,13 @@ const FUNCTIONS: [&str; 18] = [
 ];
 const NUMBERS: [u32; 12] = [0, 1, 2, 3, 4, 5, 6, 7, 8, 10, 11, 12];
 const LOOKUP: &str = "memblock_lookup";
-/// What the intakes of trees and a lookup can answer.
-const TREE_NUMBERS: [(&str, &[u32]); 3] = [
+const PAGES_OF: &str = "memblock_pages";
+/// What the intakes of trees, a lookup and a call for pages can answer.
+const ANSWERS: [(&str, &[u32]); 4] = [
     ("memblock_intake_tree", &[0, 1, 11, 6]),
     ("memblock_intake_trees", &[0, 1, 11, 6]),
     (LOOKUP, &[0, 1, 2, 8, 11]),
+    (PAGES_OF, &[0, 8, 1]),
 ];
 /// The functions that take a flag or a wish as their last number, and each of these.
 const MARKS: [&str; 2] = ["memblock_mark", "memblock_unmark"];
@@ -69,6 +80,18 @@ const BLOCKS: [&str; 5] = ["block", "mirror", "old", "by_tree", "by_calls"];
 type Wrong = String;
 /// Base, size and kind.
 type Entry = (u64, u64, u32);
+
+/// The pieces that calls in turn from page 0 on gave of one block: how many, their pages,
+/// a sum over their bytes, and the page that the next call names.
+struct Handed {
+    name: String,
+    pieces: usize,
+    pages: u128,
+    sum: u64,
+    next: u64,
+    /// The lengths of the calls' buffers.
+    rooms: BTreeSet<usize>,
+}
 
 fn main() -> ExitCode {
     let arguments: Vec<String> = std::env::args().skip(1).collect();
@@ -132,11 +155,12 @@ struct Replay {
     calls: u64,
     met: BTreeSet<String>,
     numbers: BTreeSet<u32>,
-    /// The trees as they stand; what their intakes and lookups answered; how often the block
-    /// of an intake was the block of its commands.
+    /// What the functions of `ANSWERS` answered.
+    answers: BTreeSet<(String, u32)>,
+    /// The trees as they stand; how often the block of an intake was the block of its
+    /// commands.
     tree: Vec<u8>,
     service: Vec<u8>,
-    tree_numbers: BTreeSet<(String, u32)>,
     tree_same: u32,
     /// The value that was looked up last, until it is written.
     value: Option<Vec<u8>>,
@@ -167,6 +191,12 @@ struct Replay {
     freed_twice: bool,
     /// The functions called with each last number, and not refused for it.
     words: BTreeSet<(String, u64)>,
+    /// The pages being handed over; each handover of all of them; whether a page was named
+    /// inside a piece, and a buffer lent that takes none of those left.
+    handed: Option<Handed>,
+    all_handed: Vec<Handed>,
+    inside: bool,
+    no_room: bool,
     tables: BTreeSet<String>,
     ended: bool,
 }
@@ -179,9 +209,9 @@ impl Replay {
             calls: 0,
             met: BTreeSet::new(),
             numbers: BTreeSet::new(),
+            answers: BTreeSet::new(),
             tree: vec![0; TREE_LEN],
             service: vec![0; SERVICE_LEN],
-            tree_numbers: BTreeSet::new(),
             tree_same: 0,
             value: None,
             map: Vec::new(),
@@ -200,6 +230,10 @@ impl Replay {
             freed: BTreeSet::new(),
             freed_twice: false,
             words: BTreeSet::new(),
+            handed: None,
+            all_handed: Vec::new(),
+            inside: false,
+            no_room: false,
             tables: BTreeSet::new(),
             ended: false,
         }
@@ -301,6 +335,7 @@ impl Replay {
             ["use", "base", base, "size", size, "holds", _] => {
                 return Ok((format!("use base {base} size {size} holds 0x1"), more));
             }
+            ["handed", name, ..] => return Ok((self.all_pages(name)?, more)),
             ["tables", name] => {
                 let block = self.block(name)?;
                 let board = Board::read(&block[..BLOCK_LEN]).ok_or("not a good block")?;
@@ -394,7 +429,101 @@ impl Replay {
         };
         self.calls += 1;
         self.met.insert(LOOKUP.into());
-        self.tree_numbers.insert((LOOKUP.into(), number));
+        self.answers.insert((LOOKUP.into(), number));
+        Ok(line)
+    }
+
+    /// A call for pages on the second program; its line.
+    fn pages(&mut self, arguments: &str) -> Result<String, Wrong> {
+        let words: Vec<&str> = arguments.split(", ").collect();
+        let [name, length, from, "buffer", room, "slip", slip_length] = words[..] else {
+            return Err(format!("unknown call for pages: {arguments}"));
+        };
+        let (from, room) = (hex(from)?, hex(room)? as usize);
+        let whole = self.blocks.get(name).ok_or("no such block")?;
+        let block = whole.get(..hex(length)? as usize);
+        let block = block.ok_or("longer than the block")?;
+        let mut slip = [FILL; SLIP_LEN + GUARD];
+        let lent_slip = slip.get_mut(..hex(slip_length)? as usize);
+        let lent_slip = lent_slip.ok_or("longer than the slip")?;
+        if room > BUFFER_LEN {
+            return Err("longer than the buffer".into());
+        }
+        let mut buffer = vec![FILL; room + GUARD];
+        let number = model::pages(block, from, &mut buffer[..room], lent_slip);
+        let half = |at| u64::from_le_bytes(slip[at..at + 8].try_into().expect("8 bytes"));
+        let mut line = format!(
+            "{PAGES_OF}({arguments}) = {number:#x} sum {:#x}",
+            sum(whole)
+        );
+        let mut count = 0;
+        if hex(slip_length)? as usize == SLIP_LEN {
+            count = half(0) as usize;
+            let _ = write!(line, " slip {:#x} {:#x}", half(0), half(8));
+        }
+        let _ = write!(line, " buffer {:#x}", sum(&buffer));
+        let written = &buffer[..count * PIECE_LEN];
+        for (page, order) in pieces(written).filter(|_| count <= PIECES_FEW) {
+            let _ = write!(line, " page {page:#x} order {order:#x}");
+        }
+        if number == 0 {
+            let board = Board::read(block).ok_or("not a good block")?;
+            let free = |page: u128| {
+                let (lo, hi) = (page * PAGE_LEN, (page + 1) * PAGE_LEN);
+                let mut runs = board.free_runs().into_iter();
+                runs.any(|run| run.lo <= lo && hi <= run.hi)
+            };
+            // A free page at which no piece begins lies inside one.
+            let first = pieces(written).next();
+            self.inside |= first.is_some_and(|piece| piece.0 != from) && free(from.into());
+            self.no_room |= room < PIECE_LEN && u128::from(half(8)) < PAGES;
+            self.go_on(name, from, room, written, half(8));
+        }
+        self.calls += 1;
+        self.met.insert(PAGES_OF.into());
+        self.numbers.insert(number);
+        self.answers.insert((PAGES_OF.into(), number));
+        Ok(line)
+    }
+
+    /// Counts the pieces of a call from page 0 on, or from where the last one ended.
+    fn go_on(&mut self, name: &str, from: u64, room: usize, written: &[u8], next: u64) {
+        let mut handed = match self.handed.take() {
+            Some(handed) if from > 0 && handed.name == name && handed.next == from => handed,
+            _ if from == 0 => Handed {
+                name: name.into(),
+                pieces: 0,
+                pages: 0,
+                sum: sum(&[]),
+                next: 0,
+                rooms: BTreeSet::new(),
+            },
+            _ => return,
+        };
+        handed.pieces += pieces(written).count();
+        handed.pages += pieces(written).map(|piece| 1 << piece.1).sum::<u128>();
+        handed.sum = sum_on(handed.sum, written);
+        handed.next = next;
+        handed.rooms.insert(room);
+        self.handed = Some(handed);
+    }
+
+    /// The line of all pages handed over: as many as the free runs have.
+    fn all_pages(&mut self, name: &str) -> Result<String, Wrong> {
+        let block = &self.block(name)?[..BLOCK_LEN];
+        let board = Board::read(block).ok_or("not a good block")?;
+        let whole = |lo: u128, hi: u128| (hi / PAGE_LEN).saturating_sub(lo.div_ceil(PAGE_LEN));
+        let runs = board.free_runs().into_iter();
+        let pages: u128 = runs.map(|run| whole(run.lo, run.hi)).sum();
+        let handed = self.handed.take().ok_or("nothing was handed over")?;
+        if handed.name != name || u128::from(handed.next) != PAGES || handed.pages != pages {
+            return Err("not all pages were handed over".into());
+        }
+        let line = format!(
+            "handed {name} pieces {:#x} pages {pages:#x} of {pages:#x} sum {:#x} wrong 0x0",
+            handed.pieces, handed.sum
+        );
+        self.all_handed.push(handed);
         Ok(line)
     }
 
@@ -408,6 +537,9 @@ impl Replay {
         }
         if function == LOOKUP {
             return self.lookup(arguments);
+        }
+        if function == PAGES_OF {
+            return self.pages(arguments);
         }
         let mut words = arguments.split(", ");
         let name = words.next().ok_or("no block")?.to_string();
@@ -507,7 +639,7 @@ impl Replay {
         }
         if tree_length.is_some() {
             let _ = write!(line, " tree {:#x}", sum(&self.tree));
-            self.tree_numbers.insert((function.into(), number));
+            self.answers.insert((function.into(), number));
         }
         if service_length.is_some() {
             let _ = write!(line, " service {:#x}", sum(&self.service));
@@ -563,9 +695,9 @@ impl Replay {
                 return Err(format!("the number {number} was never answered"));
             }
         }
-        for (function, numbers) in TREE_NUMBERS {
+        for (function, numbers) in ANSWERS {
             for &number in numbers {
-                if !self.tree_numbers.contains(&(function.into(), number)) {
+                if !self.answers.contains(&(function.into(), number)) {
                     return Err(format!("{function} never answered {number}"));
                 }
             }
@@ -619,6 +751,19 @@ impl Replay {
                 return Err(format!("{function} was never called with {word}"));
             }
         }
+        for name in ["block", "mirror"] {
+            let mut all = self.all_handed.iter().filter(|one| one.name == name);
+            let (Some(one), Some(two)) = (all.next(), all.next()) else {
+                return Err(format!("the pages of '{name}' were not handed over twice"));
+            };
+            let all = |handed: &Handed| (handed.pieces, handed.pages, handed.sum);
+            if all(one) != all(two) || one.rooms == two.rooms {
+                return Err(format!("other pieces of '{name}', or by the same buffers"));
+            }
+        }
+        if !self.inside || !self.no_room {
+            return Err("no page inside a piece was named, or no buffer was too short".into());
+        }
         if !["block", "mirror", "by_tree"]
             .iter()
             .all(|&name| self.tables.contains(name))
@@ -627,6 +772,15 @@ impl Replay {
         }
         Ok(())
     }
+}
+
+/// The page and the order of each piece.
+fn pieces(bytes: &[u8]) -> impl Iterator<Item = (u64, u32)> + '_ {
+    bytes.chunks_exact(PIECE_LEN).map(|piece| {
+        let (page, order) = piece.split_at(8);
+        let page = u64::from_le_bytes(page.try_into().expect("8 bytes"));
+        (page, u32::from_le_bytes(order.try_into().expect("4 bytes")))
+    })
 }
 
 /// The edition 1 block that says what a block does: the same bytes up to its end,
@@ -691,7 +845,11 @@ fn query(numbers: &[u64]) -> Result<Query, Wrong> {
 
 /// FNV-1a.
 fn sum(bytes: &[u8]) -> u64 {
-    bytes.iter().fold(0xcbf2_9ce4_8422_2325, |sum, &byte| {
+    sum_on(0xcbf2_9ce4_8422_2325, bytes)
+}
+
+fn sum_on(sum: u64, bytes: &[u8]) -> u64 {
+    bytes.iter().fold(sum, |sum, &byte| {
         (sum ^ u64::from(byte)).wrapping_mul(0x100_0000_01b3)
     })
 }

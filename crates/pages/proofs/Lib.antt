@@ -1,0 +1,16 @@
+pub mod Dyadic
+pub mod Orders
+pub mod Listing
+pub mod Runs
+pub mod Greedy
+pub mod Cover
+pub mod Resume
+pub mod Trying
+pub mod Writing
+pub mod Entering
+pub mod RunPages
+pub mod Places
+pub mod Walking
+pub mod Answers
+pub mod Sentences
+pub mod Calls

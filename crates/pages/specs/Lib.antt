@@ -1,0 +1,5 @@
+pub mod Pages
+pub mod Cut
+pub mod Sentences
+pub mod Calls
+pub mod Steps

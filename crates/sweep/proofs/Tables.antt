@@ -49,7 +49,7 @@ module _ (n : ℕ) (l : List ℕ) (i : ℕ) where
 
 -- ---- where the record before a place ends
 
-pub table-rises : (t : List ℕ) (n : ℕ) → Table t n → Canonical top (readRegions n t)
+table-rises : (t : List ℕ) (n : ℕ) → Table t n → Canonical top (readRegions n t)
 table-rises t n w = rises-Rises 0 Absent top (readRegions n t) (w .rising)
 
 module _ (t : List ℕ) (n i : ℕ) where

@@ -230,13 +230,14 @@ uint32_t memblock_next_free(const uint8_t *block, size_t length, uint64_t from, 
 /* Slip: a multiple a of alignment with start <= a and a + size <= end whose size addresses lie in one free run of the node and the
  * wish, and the end of that run, which neither end nor the limit nor the image end cuts: it is never below a + size. Top-down a is the
  * highest of these; bottom-up it is the lowest that is not below the image end, and where all are below it, the highest. End 0 is the
- * block's limit, and an end above the limit is cut to it; start is raised to MEMBLOCK_LOWEST_START, then end to start. Answers 0, 8, 1,
- * 2, 3, 4 or 5. */
+ * block's limit, and an end above the limit is cut to it; start is raised to MEMBLOCK_LOWEST_START, then end to start. For a node other
+ * than MEMBLOCK_ANY_NODE nothing of a good block counts but direction, limit, image end, that node's memory and what of it is taken.
+ * Answers 0, 8, 1, 2, 3, 4 or 5. */
 uint32_t memblock_find(const uint8_t *block, size_t length, uint64_t size, uint64_t alignment, uint64_t start, uint64_t end,
                        uint32_t node, uint32_t wish, uint8_t *slip, size_t slip_length);
 
 /* Reserves the size addresses that find finds. Answers as find does, the end being that of the run before the call, or 6: then there
- * is no second try at another address. */
+ * is no second try at another address. 6 goes by the whole taken table, whatever the node. */
 uint32_t memblock_allocate(uint8_t *block, size_t length, uint64_t size, uint64_t alignment, uint64_t start, uint64_t end,
                            uint32_t node, uint32_t wish, uint8_t *slip, size_t slip_length);
 

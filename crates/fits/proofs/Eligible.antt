@@ -3,22 +3,24 @@ use Prim.Native.Nat.{ℕ, _+_, _%_, _≤_, _<_}
 use mathlib.Core.Path.{_≡_, refl, ap, _∙_}
 use mathlib.Core.Bool.{Bool, true, false, _&&_, cond, not}
 use mathlib.Core.List.{List}
+use mathlib.Core.Option.{Option, none, some}
 use native.Mathlib.Omega.{arith}
 use lib.Dec.{leb, eqb}
 use borrow.Author.Tests.{leb-true, le-leb, eq-eqb, eqb-true}
-use Rattle.address.proofs.Tests.{both, and, no, zero-not-one}
+use Rattle.address.proofs.Tests.{both, and, no, iff, zero-not-one}
 use Rattle.regions.specs.declared.Region.{Region}
 use Rattle.regions.specs.declared.Tag.{Tag}
 use Rattle.regions.specs.declared.State.{State}
 use Rattle.regions.specs.declared.State.the-variants.{Absent, Present}
 use Rattle.regions.specs.Meaning.{at, end}
 use Rattle.regions.specs.Free.{usable}
-use Rattle.regions.specs.Runs.{inOne}
+use Rattle.regions.specs.Runs.{inOne, runAt}
 use Rattle.regions.specs.Changes.{has}
-use Rattle.regions.proofs.Lying.{passes, in-none, in-run}
-use Rattle.regions.proofs.Rises.{Rises}
+use Rattle.regions.proofs.Lying.{passes, in-none, in-run, one-in, Agree, turned, run-same, one-same}
+use Rattle.regions.proofs.Rises.{Rises, Canonical}
 use Rattle.fits.specs.declared.Query.{Query}
-use Rattle.fits.specs.Eligible.{asks, eligible, Lies}
+use Rattle.fits.specs.Eligible.{asks, eligible, Gives, Lies}
+use Rattle.fits.specs.Places.{hitOf}
 use Rattle.fits.specs.Steps.{serves}
 use Rattle.fits.specs.declared.Way.{Way}
 use Rattle.fits.specs.declared.Way.the-variants.{Up, Down}
@@ -69,6 +71,28 @@ module _ (q : Query) (pos : 0 < q .size .0) {c n : ℕ} {v : State} {xs : List R
 pub past-window : (v : Way) (q : Query) (xs : List Region) (a : ℕ) → 0 < q .size .0 → From v (last v q) a → eligible q xs a ≡ false
 past-window Up q xs a s h = no (eligible q xs a) (λ t. omega (arith, eligible-lies q xs a t .end))
 past-window Down q xs a s h = no (eligible q xs a) (λ t. omega (arith, eligible-lies q xs a t .start))
+
+-- ---- runs that agree on the tags asked for, from where the window begins, or below
+
+module _ (q : Query) (pos : 0 < q .size .0) (d : ℕ) (l : d ≤ q .start .0) where
+  still : {n : ℕ} {xs ys : List Region} → Canonical n xs → Canonical n ys → Agree (asks q) xs ys d → (a : ℕ) → eligible q xs a ≡ true → eligible q ys a ≡ true
+  still {n} {xs} {ys} w v g a e =
+      let k = eligible-lies q xs a e in
+      lies-eligible q ys a (record { aligned = k .aligned; start = k .start; end = k .end; run = one-same w v (asks q) d a g (omega (arith, k .start)) (q .size .0) pos (k .run) })
+
+  module _ {n : ℕ} {xs ys : List Region} (w : Canonical n xs) (v : Canonical n ys) (g : Agree (asks q) xs ys d) where
+    -- the same addresses are eligible
+    pub eligible-same : (a : ℕ) → eligible q xs a ≡ eligible q ys a
+    eligible-same a = iff (eligible q xs a) (eligible q ys a) (still w v g a) (still v w (turned (asks q) xs ys d g) a)
+
+    -- and have the same runs
+    pub hits-same : (beyond : ℕ → ℕ → Type 0) (m : ℕ) (o : Option ℕ) → Gives (eligible q xs) beyond m o → hitOf (runAt xs) o ≡ hitOf (runAt ys) o
+    hits-same beyond m none f = refl
+    hits-same beyond m (some a) f =
+        let k = eligible-lies q xs a (f .0) in
+        let s = one-in (asks q) (q .size .0) a w (k .run) .same in
+        let r = run-same w v (asks q) d a g (omega (arith, k .start)) (s .tag) (s .right) (s .all a (omega arith) (omega arith)) in
+        λ i. some (record { at = a; run = r i })
 
 -- ---- a record
 

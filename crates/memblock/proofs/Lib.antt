@@ -7,6 +7,7 @@ pub mod DemandThree
 pub mod Computing
 pub mod Called
 pub mod Cases
+pub mod Alone
 pub mod Freed
 pub mod FreedTwice
 pub mod Lookups

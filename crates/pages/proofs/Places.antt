@@ -16,6 +16,7 @@ use Rattle.regions.specs.declared.State.the-variants.{Absent}
 use Rattle.regions.specs.Meaning.{at, top, top-is}
 use Rattle.regions.specs.Bytes.{readRegions}
 use Rattle.regions.proofs.Rises.{Canonical}
+use Rattle.regions.proofs.Free.{free-canonical}
 use Rattle.sweep.specs.declared.Sweep.{Sweep}
 use Rattle.sweep.specs.declared.Swept.{Swept}
 use Rattle.sweep.specs.declared.Sweeping.{Sweeping}
@@ -30,7 +31,6 @@ use Rattle.pages.specs.Steps.{within, Around, enter, Entered}
 use Rattle.pages.proofs.Dyadic.{down-odd}
 use Rattle.pages.proofs.Orders.{order-largest}
 use Rattle.pages.proofs.Listing.{pieces-bare, pieces-skip, pieces-one, pieces-inside}
-use Rattle.pages.proofs.Runs.{free-canonical}
 use Rattle.pages.proofs.RunPages.{bare-page, run-below, last-page, in-run}
 
 -- the run at hand gives its pages their orders, and no page between it and the sweep is whole

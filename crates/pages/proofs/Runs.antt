@@ -14,12 +14,11 @@ use Rattle.address.proofs.Rounding.{down-le, down-near}
 use Rattle.regions.specs.declared.Tag.{Tag}
 use Rattle.regions.specs.declared.Region.{Region}
 use Rattle.regions.specs.declared.State.{State}
-use Rattle.regions.specs.Meaning.{end, at, top}
-use Rattle.regions.specs.Free.{freeMemory, freeRuns}
+use Rattle.regions.specs.Meaning.{end, top}
 use Rattle.regions.specs.Changes.{has}
 use Rattle.regions.specs.Runs.{inOne}
 use Rattle.regions.proofs.Rises.{Rises, ended, next, Canonical}
-use Rattle.regions.proofs.RoundTrip.{canonical-shortest}
+use Rattle.regions.proofs.Free.{free-canonical}
 use Rattle.block.specs.Block.{Contents}
 use Rattle.seek.specs.Search.{runsOf}
 use Rattle.fits.specs.Eligible.{wanted}
@@ -29,10 +28,6 @@ use Rattle.pages.specs.Steps.{within}
 use Rattle.pages.proofs.Orders.{no-order, order-same}
 
 -- free runs are a shortest list
-pub free-canonical : (ms ts : List Region) → Canonical top (freeRuns ms ts)
-unfolding freeRuns
-free-canonical ms ts = canonical-shortest (freeMemory (at ms) (at ts)) top
-
 pub runs-canonical : (s : Contents) → Canonical top (runsOf s)
 runs-canonical s = free-canonical (s .memory) (s .taken)
 

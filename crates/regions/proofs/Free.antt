@@ -13,7 +13,7 @@ use Rattle.regions.specs.Meaning.{Meaning, at, top}
 use Rattle.regions.specs.Changes.{has}
 use Rattle.regions.specs.Free.{usable, untaken, freeMemory, freeRuns}
 use Rattle.regions.proofs.Rises.{Canonical}
-use Rattle.regions.proofs.RoundTrip.{rises-above, at-shortest, at-shortest-above}
+use Rattle.regions.proofs.RoundTrip.{rises-above, at-shortest, at-shortest-above, canonical-shortest}
 use Rattle.regions.proofs.Lying.{passes}
 
 -- usable memory has memory's tag
@@ -46,6 +46,11 @@ runs-at ms ts w a = go (le-or-lt top a)
     go (inl h) =
         at-shortest-above (freeMemory (at ms) (at ts)) top a h ∙ sym (ap (λ (x : State). untaken (usable x) (at ts a)) (rises-above a w h) ∙ nothing (at ts a))
     go (inr h) = at-shortest (freeMemory (at ms) (at ts)) top a h
+
+-- they are a shortest list
+pub free-canonical : (ms ts : List Region) → Canonical top (freeRuns ms ts)
+unfolding freeRuns
+free-canonical ms ts = canonical-shortest (freeMemory (at ms) (at ts)) top
 
 -- and what is free is memory
 pub free-is : (f g : Meaning) (a : ℕ) (t : Tag) → freeMemory f g a ≡ Present t → f a ≡ Present t

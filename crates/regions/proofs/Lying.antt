@@ -202,21 +202,29 @@ run-is t lo a hi w i h l =
     let e : hi ≡ s .hi = omega (arith, x .1, y .1) in
     rw (d, e) (s .is)
 
--- ---- lists that say the same from d on
+-- ---- lists that have the tags that pass at the same addresses, from d on
 
 -- no run reaches across d
 abbrev pub Parted : List Region → ℕ → Type 0
 Parted xs d = (b : ℕ) (t : Tag) → suc b ≡ d → at xs b ≡ Present t → at xs d ≡ Present t → ⊥
 
-pub record Agree (xs ys : List Region) (d : ℕ) : Type 0 where
-  pub same : (a : ℕ) → d ≤ a → at xs a ≡ at ys a
+-- ys has each tag that passes where xs has it
+abbrev pub Within : (Tag → Bool) → ℕ → List Region → List Region → Type 0
+Within p d xs ys = (t : Tag) → p t ≡ true → (a : ℕ) → d ≤ a → at xs a ≡ Present t → at ys a ≡ Present t
+
+pub record Agree (p : Tag → Bool) (xs ys : List Region) (d : ℕ) : Type 0 where
+  pub there : Within p d xs ys
+  pub back : Within p d ys xs
   pub low : Parted xs d
   pub low′ : Parted ys d
 
-module _ {c c′ n n′ : ℕ} {v v′ : State} {xs ys : List Region} (w : Rises c v n xs) (w′ : Rises c′ v′ n′ ys) (d a : ℕ) (g : Agree xs ys d) (l : d ≤ a) where
-  -- have the same runs there
-  pub run-same : (t : Tag) → at xs a ≡ Present t → runAt xs a ≡ runAt ys a
-  run-same t e = sym (s .is) ∙ run-is t (s .lo) a (s .hi) w′ (s .low) (s .high) o
+pub turned : (p : Tag → Bool) (xs ys : List Region) (d : ℕ) → Agree p xs ys d → Agree p ys xs d
+turned p xs ys d g = record { there = g .back; back = g .there; low = g .low′; low′ = g .low }
+
+module _ {c c′ n n′ : ℕ} {v v′ : State} {xs ys : List Region} (w : Rises c v n xs) (w′ : Rises c′ v′ n′ ys) (p : Tag → Bool) (d a : ℕ) (g : Agree p xs ys d) (l : d ≤ a) where
+  -- have the same runs of these tags there
+  pub run-same : (t : Tag) → p t ≡ true → at xs a ≡ Present t → runAt xs a ≡ runAt ys a
+  run-same t k e = sym (s .is) ∙ run-is t (s .lo) a (s .hi) w′ (s .low) (s .high) o
     where
       s : Lies xs t a
       s = run-of t a w e
@@ -229,19 +237,19 @@ module _ {c c′ n n′ : ℕ} {v v′ : State} {xs ys : List Region} (w : Rises
       m = from (le-or-lt d (s .lo))
 
       all : (b : ℕ) → s .lo ≤ b → b < s .hi → at ys b ≡ Present t
-      all b x y = sym (g .same b (omega (arith, m))) ∙ s .run .all b x y
+      all b x y = g .there t k b (omega (arith, m)) (s .run .all b x y)
 
       begins : (b : ℕ) → suc b ≡ s .lo → (d ≤ b) ⊎ (b < d) → at ys b ≡ Present t → ⊥
-      begins b y (inl x) f = s .run .begins b y (g .same b x ∙ f)
+      begins b y (inl x) f = s .run .begins b y (g .back t k b x f)
       begins b y (inr x) f =
           let z : s .lo ≡ d = omega (arith, m) in
           g .low′ b t (omega arith) f (rw z at (all (s .lo) (omega arith) (omega (arith, s .low, s .high))))
 
       o : Longest ys t (s .lo) (s .hi)
-      o = record { all = all; stops = λ f. s .run .stops (g .same (s .hi) (omega (arith, m, s .low, s .high)) ∙ f); begins = λ b y. begins b y (le-or-lt d b) }
+      o = record { all = all; stops = λ f. s .run .stops (g .back t k (s .hi) (omega (arith, m, s .low, s .high)) f); begins = λ b y. begins b y (le-or-lt d b) }
 
   -- and what lies in one region of the one lies in one of the other
-  pub one-same : (p : Tag → Bool) (size : ℕ) → 0 < size → inOne p size a xs ≡ true → inOne p size a ys ≡ true
-  one-same p size pos e =
+  pub one-same : (size : ℕ) → 0 < size → inOne p size a xs ≡ true → inOne p size a ys ≡ true
+  one-same size pos e =
       let s = one-in p size a w e .same in
-      in-one p size a (s .tag) w′ pos (s .right) (λ b i j. sym (g .same b (omega arith)) ∙ s .all b i j)
+      in-one p size a (s .tag) w′ pos (s .right) (λ b i j. g .there (s .tag) (s .right) b (omega arith) (s .all b i j))

@@ -15,8 +15,8 @@ use Rattle.regions.specs.Meaning.{Meaning, end, at, top}
 use Rattle.regions.specs.Free.{usable, untaken, freeMemory, freeRuns}
 use Rattle.regions.specs.Runs.{runAt}
 use Rattle.regions.proofs.Rises.{Canonical}
-use Rattle.regions.proofs.RoundTrip.{at-here, at-before, at-past, canonical-shortest}
-use Rattle.regions.proofs.Free.{pass-untaken, runs-at, free-memory}
+use Rattle.regions.proofs.RoundTrip.{at-here, at-before, at-past}
+use Rattle.regions.proofs.Free.{pass-untaken, runs-at, free-canonical, free-memory}
 use Rattle.regions.proofs.Lying.{passes, Longest, run-is, one-run-in}
 use Rattle.fits.specs.declared.Query.{Query}
 use Rattle.fits.specs.Eligible.{asks, orElse, eligible}
@@ -205,8 +205,7 @@ module _ (v : Way) (q : Query) (ms ts : List Region) (s : 0 < q .size .0) (l : 0
   xs = freeRuns ms ts
 
   runs : Canonical top xs
-  unfolding freeRuns
-  runs = canonical-shortest (freeMemory (at ms) (at ts)) top
+  runs = free-canonical ms ts
 
   below : (a : ℕ) → eligible q xs a ≡ true → a < top
   unfolding freeRuns

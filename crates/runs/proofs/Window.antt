@@ -3,12 +3,11 @@ use Prim.Native.Nat.{ℕ, zero, suc, _-_, _≤_, _<_}
 use mathlib.Core.Path.{_≡_, refl, sym, ap, _∙_}
 use mathlib.Core.Bool.{Bool, true, false, cond}
 use mathlib.Core.List.{List, [], _∷_}
-use mathlib.Core.Option.{Option, none, some}
 use native.Mathlib.Omega.{arith}
 use lib.Dec.{leb}
 use lib.ListN.{drop}
 use borrow.Author.Tests.{leb-true}
-use Rattle.address.proofs.Tests.{no, clash, zero-not-one}
+use Rattle.address.proofs.Tests.{zero-not-one}
 use Rattle.regions.specs.declared.Region.{Region}
 use Rattle.regions.specs.declared.State.{State}
 use Rattle.regions.specs.declared.State.the-variants.{Absent, Present}
@@ -16,48 +15,19 @@ use Rattle.regions.specs.Meaning.{end, at, top}
 use Rattle.regions.specs.Free.{usable, untaken, freeMemory, freeRuns}
 use Rattle.regions.specs.Runs.{runAt}
 use Rattle.regions.proofs.Rises.{Rises, next, Canonical}
-use Rattle.regions.proofs.RoundTrip.{at-here, at-past, rises-below, canonical-shortest}
+use Rattle.regions.proofs.RoundTrip.{at-here, at-past, rises-below}
 use Rattle.regions.proofs.Trim.{lower, rises-apart}
-use Rattle.regions.proofs.Free.{runs-at, free-memory}
-use Rattle.regions.proofs.Lying.{one-in, Parted, Agree, run-same, one-same}
+use Rattle.regions.proofs.Free.{runs-at, free-canonical, free-memory}
+use Rattle.regions.proofs.Lying.{Parted, Agree}
 use Rattle.records.specs.Steps.{endingBy}
 use Rattle.fits.specs.declared.Query.{Query}
-use Rattle.fits.specs.Eligible.{asks, eligible, lowest, Gives}
+use Rattle.fits.specs.Eligible.{asks, eligible, lowest}
 use Rattle.fits.specs.Places.{hitOf}
 use Rattle.fits.specs.declared.Way.the-variants.{Up}
 use Rattle.runs.specs.Steps.{firstIn}
 use Rattle.fits.proofs.Extremes.{lowest-gives}
 use Rattle.fits.proofs.Stretches.{lowest-agree}
-use Rattle.fits.proofs.Eligible.{eligible-lies, lies-eligible}
-
--- ---- runs that agree from where the window begins, or below
-
-module _ (q : Query) (pos : 0 < q .size .0) (d : ℕ) (l : d ≤ q .start .0) where
-  still : {n : ℕ} {xs ys : List Region} → Canonical n xs → Canonical n ys → Agree xs ys d → (a : ℕ) → eligible q xs a ≡ true → eligible q ys a ≡ true
-  still {n} {xs} {ys} w v g a e =
-      let k = eligible-lies q xs a e in
-      lies-eligible q ys a (record { aligned = k .aligned; start = k .start; end = k .end; run = one-same w v d a g (omega (arith, k .start)) (asks q) (q .size .0) pos (k .run) })
-
-  module _ {n : ℕ} {xs ys : List Region} (w : Canonical n xs) (v : Canonical n ys) (g : Agree xs ys d) where
-    -- the same addresses are eligible
-    eligible-same : (a : ℕ) → eligible q xs a ≡ eligible q ys a
-    eligible-same a = go (eligible q xs a) refl
-      where
-        turned : Agree ys xs d
-        turned = record { same = λ a i. sym (g .same a i); low = g .low′; low′ = g .low }
-
-        go : (b : Bool) → eligible q xs a ≡ b → b ≡ eligible q ys a
-        go true e = sym (still w v g a e)
-        go false e = sym (no (eligible q ys a) (λ f. clash (eligible q xs a) (still v w turned a f) e))
-
-    -- and have the same runs
-    hits-same : (o : Option ℕ) → Gives (eligible q xs) (λ b a. b < a) top o → hitOf (runAt xs) o ≡ hitOf (runAt ys) o
-    hits-same none f = refl
-    hits-same (some a) f =
-        let k = eligible-lies q xs a (f .0) in
-        let s = one-in (asks q) (q .size .0) a w (k .run) .same in
-        let r = run-same w v d a g (omega (arith, k .start)) (s .tag) (s .all a (omega arith) (omega arith)) in
-        λ i. some (record { at = a; run = r i })
+use Rattle.fits.proofs.Eligible.{eligible-same, hits-same}
 
 -- ---- a first record that ends at or below the start
 
@@ -73,21 +43,19 @@ canonical-drop (suc i) (r ∷ rs) w = canonical-drop i rs (tail w)
 module _ (q : Query) (pos : 0 < q .size .0) (ms ts ms′ ts′ : List Region) (w : Canonical top ms) (w′ : Canonical top ms′) (d : ℕ) (l : d ≤ q .start .0)
     (memory : (a : ℕ) → d ≤ a → at ms a ≡ at ms′ a) (taken : (a : ℕ) → d ≤ a → at ts a ≡ at ts′ a)
     (low : Parted (freeRuns ms ts) d) (low′ : Parted (freeRuns ms′ ts′) d) where
-  agree : Agree (freeRuns ms ts) (freeRuns ms′ ts′) d
+  same : (a : ℕ) → d ≤ a → at (freeRuns ms ts) a ≡ at (freeRuns ms′ ts′) a
   unfolding freeMemory
-  agree =
-      record {
-        same = λ a i. runs-at ms ts w a ∙ rw (memory a i, taken a i) (sym (runs-at ms′ ts′ w′ a));
-        low = low;
-        low′ = low′;
-      }
+  same a i = runs-at ms ts w a ∙ rw (memory a i, taken a i) (sym (runs-at ms′ ts′ w′ a))
+
+  agree : Agree (asks q) (freeRuns ms ts) (freeRuns ms′ ts′) d
+  agree = record { there = λ t k a i e. sym (same a i) ∙ e; back = λ t k a i e. same a i ∙ e; low = low; low′ = low′ }
 
   lowest-same : firstIn Up ms ts q ≡ firstIn Up ms′ ts′ q
-  unfolding firstIn freeRuns
+  unfolding firstIn
   lowest-same =
-      let x = canonical-shortest (freeMemory (at ms) (at ts)) top in
-      let y = canonical-shortest (freeMemory (at ms′) (at ts′)) top in
-      hits-same q pos d l x y agree (lowest (eligible q (freeRuns ms ts)) top) (lowest-gives (eligible q (freeRuns ms ts)) top)
+      let x = free-canonical ms ts in
+      let y = free-canonical ms′ ts′ in
+      hits-same q pos d l x y agree (λ b a. b < a) top (lowest (eligible q (freeRuns ms ts)) top) (lowest-gives (eligible q (freeRuns ms ts)) top)
       ∙ ap (hitOf (runAt (freeRuns ms′ ts′))) (lowest-agree (eligible q (freeRuns ms ts)) (eligible q (freeRuns ms′ ts′)) top (λ a i. eligible-same q pos d l x y agree a))
 
 module _ (q : Query) (pos : 0 < q .size .0) where

@@ -1,8 +1,10 @@
 pub mod Allocating
+pub mod Alone
 pub mod Answering
 pub mod DemandTwo
 pub mod Eligible
 pub mod Reserving
 pub mod RunEnd
+pub mod SameAnswers
 pub mod TopDown
 pub mod Wishes

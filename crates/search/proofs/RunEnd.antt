@@ -14,13 +14,11 @@ use Rattle.regions.specs.declared.Tag.{Tag}
 use Rattle.regions.specs.declared.Run.{Run}
 use Rattle.regions.specs.declared.State.the-variants.{Present}
 use Rattle.regions.specs.Meaning.{at, top}
-use Rattle.regions.specs.Free.{freeRuns}
 use Rattle.regions.specs.Runs.{inOne, OneTag, runAt}
 use Rattle.regions.specs.Bytes.{number}
-use Rattle.regions.proofs.Free.{runs-at}
+use Rattle.regions.proofs.Free.{runs-at, free-canonical}
 use Rattle.regions.proofs.Lying.{Lies, one-in, run-of}
 use Rattle.regions.proofs.Rises.{Canonical}
-use Rattle.regions.proofs.RoundTrip.{canonical-shortest}
 use Rattle.block.specs.Block.{Contents, contents, good}
 use Rattle.fits.specs.declared.Query.{Query}
 use Rattle.fits.specs.Eligible.{wanted, asks, eligible, Gives}
@@ -41,8 +39,7 @@ use Rattle.search.proofs.Reserving.{reserve-sentence}
 
 module _ (s : Contents) (w : Canonical top (s .memory)) (p : Tag → Bool) (size x : ℕ) (pos : 0 < size) (e : inOne p size x (runsOf s) ≡ true) where
   runs : Canonical top (runsOf s)
-  unfolding freeRuns
-  runs = canonical-shortest (freeIn s) top
+  runs = free-canonical (s .memory) (s .taken)
 
   same : OneTag (at (runsOf s)) p size x
   same = one-in p size x runs e .same

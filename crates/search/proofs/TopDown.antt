@@ -1,63 +1,27 @@
 -- A top-down search, and next free, do not look at the image end. Assumes nothing.
 use Prim.Native.Nat.{ℕ, _^_, _<_}
 use mathlib.Core.Path.{_≡_, refl, ap, _∙_}
-use mathlib.Core.Bool.{Bool, true, false, cond}
+use mathlib.Core.Bool.{true, false, cond}
 use mathlib.Core.List.{List}
 use mathlib.Core.Logic.{_⊎_, inl, inr}
 use native.Mathlib.Omega.{arith}
-use lib.Dec.{leb, eqb}
-use lib.ListN.{length}
 use borrow.Author.Tests.{ne-eqb}
 use Rattle.address.proofs.Tests.{either}
 use Rattle.regions.specs.declared.Kind.the-variants.{Taken}
 use Rattle.regions.specs.declared.Region.{Region}
 use Rattle.regions.specs.declared.Change.the-variants.{Fill}
 use Rattle.regions.specs.Changes.{changed}
-use Rattle.block.specs.Block.{current, capacity, Contents, withList, withSettings, withImage, blockBytes, contents, good}
-use Rattle.range.specs.Outcomes.{Outcome, outcome, doneWith, store, tag}
+use Rattle.block.specs.Block.{current, Contents, withSettings, withImage, contents, good}
+use Rattle.range.specs.Outcomes.{Outcome, store, tag}
 use Rattle.tables.specs.Commands.{setImageEnd}
 use Rattle.tables.proofs.ImageEnd.{image-end-sentence}
 use Rattle.fits.specs.declared.Query.{Query}
 use Rattle.fits.specs.declared.Place.{Place}
 use Rattle.fits.specs.declared.Place.the-variants.{Here, Nowhere}
 use Rattle.seek.specs.Search.{found, foundPlace, lowestFree, nextPlace}
-use Rattle.search.specs.Answers.{Answer, answer, refuse, slipOf, asking, askable, refusal, placeAnswer, reserved, allocateAnswer, find, allocate, nextFree}
-use Rattle.search.specs.TopDown.{SameAnswer, TopDownSentence}
-
--- ---- the same answer on two blocks
-
-same : {x y : Answer} → x ≡ y → SameAnswer x y
-same e = record { number = ap (λ (x : Answer). x .number) e; slip = ap (λ (x : Answer). x .slip) e }
-
--- past the same checks
-asking-same : (n : ℕ) (b c slip : List ℕ) (x y : Answer) → SameAnswer x y → SameAnswer (asking n b slip x) (asking n c slip y)
-asking-same n b c slip x y s = go (eqb (length slip) 16) (eqb n 0)
-  where
-    go : (w t : Bool) → SameAnswer (cond w (cond t x (refuse n b)) (answer 8 b slip)) (cond w (cond t y (refuse n c)) (answer 8 c slip))
-    go true true = s
-    go true false = record { number = refl; slip = refl }
-    go false t = record { number = refl; slip = refl }
-
-place-same : (b c : List ℕ) (p : Place) → SameAnswer (placeAnswer b p) (placeAnswer c p)
-place-same b c Nowhere = record { number = refl; slip = refl }
-place-same b c (Here a r) = record { number = refl; slip = refl }
-
-reserved-same : (b c : List ℕ) (a end : ℕ) (o u : Outcome) → o .number ≡ u .number → SameAnswer (reserved b a end o) (reserved c a end u)
-reserved-same b c a end o u e = rw e (go (eqb (u .number) 0))
-  where
-    go : (t : Bool) → SameAnswer (cond t (answer 0 (o .block) (slipOf a end)) (refuse (u .number) b)) (cond t (answer 0 (u .block) (slipOf a end)) (refuse (u .number) c))
-    go true = record { number = refl; slip = refl }
-    go false = record { number = refl; slip = refl }
-
--- a list is stored in both, or in neither
-store-same : (xs : List Region) (b c : List ℕ) → store current Taken xs b .number ≡ store current Taken xs c .number
-unfolding store
-store-same xs b c = go (leb (length xs) (capacity current Taken))
-  where
-    go : (t : Bool) → cond t (doneWith (blockBytes current (withList (contents current b) Taken xs))) (outcome 6 b) .number
-        ≡ cond t (doneWith (blockBytes current (withList (contents current c) Taken xs))) (outcome 6 c) .number
-    go true = refl
-    go false = refl
+use Rattle.search.specs.Answers.{Answer, SameAnswer, askable, refusal, allocateAnswer, find, allocate, nextFree}
+use Rattle.search.specs.TopDown.{TopDownSentence}
+use Rattle.search.proofs.SameAnswers.{same, asking-same, place-same, reserved-same, store-same, find-same}
 
 -- ---- another image end
 
@@ -107,26 +71,25 @@ module _ (b : List ℕ) (image : ℕ) (l : image < 2 ^ 64) where
     found-same : good current b ≡ true → foundPlace (contents current c) q ≡ foundPlace (contents current b) q
     found-same g = ap (λ (s : Contents). foundPlace s q) (says g) ∙ place-down (contents current b) q image d
 
-    find-same : good current b ≡ true → SameAnswer (find current q c slip) (find current q b slip)
-    unfolding find
-    find-same g = rw (isGood g, g, found-same g) (asking-same (refusal q) c b slip _ _ (place-same c b (foundPlace (contents current b) q)))
+    find-down : good current b ≡ true → SameAnswer (find current q c slip) (find current q b slip)
+    find-down g = find-same q c b slip (isGood g) g (λ e. found-same g)
 
     allocate-down : good current b ≡ true → SameAnswer (allocate current q c slip) (allocate current q b slip)
     unfolding allocate
     allocate-down g =
         rw (isGood g, g, found-same g)
-        (asking-same (refusal q) c b slip _ _ (allocate-same b c image (q .size .0) (says g) (foundPlace (contents current b) q)))
+        (asking-same (refusal q) c b slip _ _ (λ e. allocate-same b c image (q .size .0) (says g) (foundPlace (contents current b) q)))
 
   next-same : (p node wish : ℕ) (slip : List ℕ) → good current b ≡ true → SameAnswer (nextFree current p node wish c slip) (nextFree current p node wish b slip)
   unfolding nextFree nextPlace lowestFree
   next-same p node wish slip g =
-      rw (isGood g, g, says g) (asking-same (cond (askable node wish) 0 2) c b slip _ _ (place-same c b (nextPlace (contents current b) p node wish)))
+      rw (isGood g, g, says g) (asking-same (cond (askable node wish) 0 2) c b slip _ _ (λ e. place-same c b (nextPlace (contents current b) p node wish)))
 
 pub top-down-sentence : TopDownSentence
 unfolding c
 top-down-sentence =
     record {
-      find = λ q b slip d image l. if-good b image l (λ e. find current q e slip) (find-same b image l q slip d);
+      find = λ q b slip d image l. if-good b image l (λ e. find current q e slip) (find-down b image l q slip d);
       allocate = λ q b slip d image l. if-good b image l (λ e. allocate current q e slip) (allocate-down b image l q slip d);
       next-free = λ p node wish b slip image l. if-good b image l (λ e. nextFree current p node wish e slip) (next-same b image l p node wish slip);
     }

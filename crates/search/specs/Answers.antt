@@ -1,5 +1,6 @@
 -- What find, next free and allocate answer and leave, for all inputs: refusals in document 01's order. Assumes nothing.
 use Prim.Native.Nat.{ℕ}
+use mathlib.Core.Path.{_≡_}
 use mathlib.Core.Bool.{Bool, cond, _&&_, _||_}
 use mathlib.Core.List.{List, [], _++_}
 use lib.Dec.{leb, eqb}
@@ -30,6 +31,11 @@ answer n b slip = record { number = n; block = b; slip = slip; buffer = [] }
 -- with what is in the buffer
 abbrev pub withBuffer : List ℕ → Answer → Answer
 withBuffer buffer a = record { number = a .number; block = a .block; slip = a .slip; buffer = buffer }
+
+-- two answers with the same number and the same slip
+pub record SameAnswer (x y : Answer) : Type 0 where
+  pub number : x .number ≡ y .number
+  pub slip : x .slip ≡ y .slip
 
 -- a refusal leaves the block as lent, and a slip of 16 bytes all zero
 abbrev pub refuse : ℕ → List ℕ → Answer

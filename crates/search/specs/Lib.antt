@@ -1,3 +1,4 @@
+pub mod Alone
 pub mod Answers
 pub mod DemandTwo
 pub mod RunEnd

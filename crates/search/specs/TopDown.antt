@@ -5,12 +5,7 @@ use mathlib.Core.List.{List}
 use Rattle.block.specs.Block.{current, contents}
 use Rattle.tables.specs.Commands.{setImageEnd}
 use Rattle.fits.specs.declared.Query.{Query}
-use Rattle.search.specs.Answers.{Answer, find, allocate, nextFree}
-
--- the same number and the same slip
-pub record SameAnswer (x y : Answer) : Type 0 where
-  pub number : x .number ≡ y .number
-  pub slip : x .slip ≡ y .slip
+use Rattle.search.specs.Answers.{Answer, SameAnswer, find, allocate, nextFree}
 
 -- a search answers the same after the image end has been set, to whatever value
 abbrev pub HeedsNoImage : List ℕ → (List ℕ → Answer) → Type 0

@@ -1,10 +1,11 @@
-//! The twelve cases of document 01 and those of requests E1, E3 to E10 and E14, run through
-//! the archive.
+//! The twelve cases of document 01 and those of requests E1, E3 to E10, E13 and E14, run
+//! through the archive.
 
 use crate::blocks::{get_u64, read_recs};
 use crate::call::{Call, Command};
 use crate::desk::Desk;
 use crate::pairs;
+use crate::premises::{broken, Side, ALIKE, NEEDED, ROOM};
 use crate::reports::{self, Entry};
 use crate::rng::Rng;
 use model::layout::*;
@@ -270,7 +271,7 @@ fn query(size: u64, alignment: u64) -> Query {
 }
 
 pub fn run(desk: &mut Desk) -> u32 {
-    let cases: [fn(&mut Desk); 88] = [
+    let cases: [fn(&mut Desk); 91] = [
         printed,
         one,
         two_and_three,
@@ -339,6 +340,9 @@ pub fn run(desk: &mut Desk) -> u32 {
         pages_of_full_tables,
         pages_that_are_none,
         pages_refused,
+        alone_premises,
+        alone_alike,
+        alone_and_allocate,
         tree_stored,
         tree_by_its_records,
         tree_broken,
@@ -2768,5 +2772,80 @@ fn pages_refused(desk: &mut Desk) {
             c.expect("buffer", c.desk.buffer.clone(), vec![0x5A; 30]);
             c.expect("block", c.block.clone(), block.clone());
         }
+    }
+}
+
+/// The block of a side of the table, by calls on a fresh one.
+fn case_of<'a>(desk: &'a mut Desk, side: &Side) -> Case<'a> {
+    let mut c = Case::new(desk);
+    c.limit(side.limit, side.direction);
+    c.image(side.image_end);
+    for &(lo, hi, flags, node) in side.memory {
+        c.add_tag(lo, hi - lo, (flags, node), 0);
+    }
+    for (lo, hi) in side.all_taken() {
+        c.reserve(lo, hi);
+    }
+    if !side.good {
+        c.block[ZERO_WORD_AT] = 1;
+    }
+    c
+}
+
+impl Case<'_> {
+    /// The number and the slip of a call with the slip of a side.
+    fn lent_slip(&mut self, call: &Call, side: &Side) -> (u32, Vec<u8>) {
+        let mut slip = vec![side.slip.1; side.slip.0];
+        (self.desk.call(call, &mut self.block, &mut slip), slip)
+    }
+
+    /// The find of a side, which must give what it says and leave the block.
+    fn found(&mut self, side: &Side) -> (u32, Vec<u8>) {
+        let before = self.block.clone();
+        let call = Call::Find(side.query);
+        let got = self.lent_slip(&call, side);
+        self.expect(&call.text(), got.clone(), side.wanted());
+        self.expect("block", self.block.clone(), before);
+        got
+    }
+}
+
+/// Each premise of request E13: blocks and finds that differ in it alone are answered
+/// otherwise.
+fn alone_premises(desk: &mut Desk) {
+    for (premise, pair) in &NEEDED {
+        let [one, other] = pair.each_ref().map(|s| case_of(desk, s).found(s));
+        if broken(pair) != [*premise] || one == other {
+            desk.fail(&format!("{premise}: not it alone, or the same answers"));
+        }
+    }
+}
+
+/// What differs in no premise is answered alike.
+fn alone_alike(desk: &mut Desk) {
+    for pair in &ALIKE {
+        let [one, other] = pair.each_ref().map(|s| case_of(desk, s).found(s));
+        if !broken(pair).is_empty() || one != other {
+            desk.fail("blocks that agree for a node, with other answers");
+        }
+    }
+}
+
+/// Allocate is not included: it needs room in the taken table, which all nodes share.
+fn alone_and_allocate(desk: &mut Desk) {
+    for (side, allocated) in &ROOM {
+        let mut c = case_of(desk, side);
+        c.count(&TAKEN, side.elsewhere);
+        c.found(side);
+        let before = c.block.clone();
+        let call = Call::Allocate(side.query);
+        let got = c.lent_slip(&call, side);
+        let number = allocated.err().unwrap_or(0);
+        c.expect(&call.text(), got, (number, side.slip_after(*allocated)));
+        if allocated.is_ok() {
+            c.count(&TAKEN, side.elsewhere + 1);
+            c.free(0x1F000, 0x20000);
+        }
+        c.expect("block", c.block.clone(), before);
     }
 }

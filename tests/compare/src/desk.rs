@@ -1,6 +1,7 @@
 //! Makes each call twice, on the archive and on the model, from equal bytes,
 //! and stops the program at the first difference.
 
+use crate::alone::Alone;
 use crate::blocks::{get_u32, get_u64, read_recs};
 use crate::call::{Call, Command};
 use crate::frees::Frees;
@@ -164,6 +165,7 @@ pub struct Desk {
     pub images: Images,
     pub frees: Frees,
     pub pages: Pages,
+    pub alone: Alone,
     /// What the last call left in the buffer it was lent.
     pub buffer: Vec<u8>,
     block_room: Lent,
@@ -187,6 +189,7 @@ impl Desk {
             images: Images::default(),
             frees: Frees::default(),
             pages: Pages::default(),
+            alone: Alone::default(),
             buffer: Vec::new(),
             block_room: Lent::new(),
             slip_room: Lent::new(),

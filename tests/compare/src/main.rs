@@ -1,6 +1,7 @@
 //! Calls the archive and the model on equal bytes and compares the number and
 //! every byte of block, slip, buffer, report, trees, path, name and old block. See README.md.
 
+mod alone;
 mod archive;
 mod blocks;
 mod call;
@@ -16,6 +17,8 @@ mod numbers;
 mod orders;
 mod pages;
 mod pairs;
+#[path = "../../model/tests/premises/mod.rs"]
+mod premises;
 mod reports;
 mod runs;
 mod wishes;
@@ -43,10 +46,13 @@ const CALLS_PER_TREES: u64 = 60;
 /// One list of pages handed over to the end is asked for in this many calls of their part.
 const CALLS_PER_HANDOVER: u64 = 60;
 
+/// One pair of blocks that agree for a node is asked for in this many calls of their part.
+const CALLS_PER_AGREEING: u64 = 60;
+
 /// In the order of a whole run: what finds most in few calls comes first.
-const PARTS: [&str; 12] = [
-    "cases", "faults", "lengths", "editions", "damage", "pages", "trees", "pairs", "fills",
-    "lists", "orders", "walks",
+const PARTS: [&str; 13] = [
+    "cases", "faults", "lengths", "editions", "damage", "pages", "alone", "trees", "pairs",
+    "fills", "lists", "orders", "walks",
 ];
 
 struct Options {
@@ -147,7 +153,7 @@ fn main() {
             "cases" => {
                 let cases = cases::run(desk);
                 println!(
-                    "cases: all {cases} of document 01 and those of requests E1, E3 to E10 and E14, {} calls",
+                    "cases: all {cases} of document 01 and those of requests E1, E3 to E10, E13 and E14, {} calls",
                     desk.calls
                 );
             }
@@ -157,10 +163,11 @@ fn main() {
             "editions" => editions(desk, &there, options.share(3)),
             "damage" => damage(desk, &there, options.share(13)),
             "pages" => pages(desk, options.share(3)),
+            "alone" => alone(desk, options.share(3)),
             "trees" => trees(desk, options.share(6)),
             "pairs" => pairs(desk, options.share(6)),
             "faults" => faults(desk, &there, options.share(8)),
-            "fills" => fills(desk, &there, options.share(25)),
+            "fills" => fills(desk, &there, options.share(22)),
             _ => walks(desk, options.calls.saturating_sub(desk.calls)),
         }
     }
@@ -181,6 +188,7 @@ fn main() {
     sides_met(desk);
     frees_met(desk);
     pages_met(desk);
+    alone_met(desk);
     println!("compare: {} calls, all equal", desk.calls);
 }
 
@@ -243,6 +251,13 @@ fn frees_met(desk: &Desk) {
 fn pages_met(desk: &Desk) {
     if Command::Pages.is_there() {
         tell("pages", desk.pages.told());
+    }
+}
+
+/// Finds for a node were made on every side of what two blocks differ in.
+fn alone_met(desk: &Desk) {
+    if Command::Find.is_there() {
+        tell("alone", desk.alone.told());
     }
 }
 
@@ -405,6 +420,37 @@ fn pages(desk: &mut Desk, calls: u64) {
         ("lists of more than one call", tally.in_parts, floor / 2),
         ("boards with both tables full", tally.full, floor / 20),
         ("boards with more pieces", tally.long, floor / 20),
+    ] {
+        if count < floor {
+            stop(&format!(
+                "only {count} {what} were met, at least {floor} asked for"
+            ));
+        }
+    }
+}
+
+/// Finds for a node on two blocks that agree for it.
+fn alone(desk: &mut Desk, calls: u64) {
+    if !Command::Find.is_there() {
+        println!("alone: no find in the archive");
+        return;
+    }
+    let before = desk.calls;
+    let tally = alone::run(desk, before + calls);
+    println!(
+        "alone: {} calls, {} pairs of blocks that agree for a node ({} with a block reached by \
+         calls), {} finds with the same number and slip on both, {} of them with an address",
+        desk.calls - before,
+        tally.pairs,
+        tally.by_calls,
+        tally.finds,
+        tally.found,
+    );
+    let floor = calls / CALLS_PER_AGREEING;
+    for (what, count, floor) in [
+        ("pairs of blocks", tally.pairs, floor),
+        ("pairs with a block by calls", tally.by_calls, floor / 20),
+        ("finds with an address", tally.found, 2 * floor),
     ] {
         if count < floor {
             stop(&format!(

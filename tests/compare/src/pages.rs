@@ -680,23 +680,28 @@ impl Pages {
                     .zip(counts.to_vec()),
             );
         }
-        let never: Vec<&str> = (met.iter().filter(|side| side.1 == 0))
-            .map(|side| &side.0[..])
-            .collect();
-        if !never.is_empty() {
-            return Err(format!("never met: {}", never.join("; ")));
-        }
-        let (rarest, count) = met.iter().min_by_key(|side| side.1).expect("some");
-        Ok(format!(
-            "{} sides of buffers, pieces and runs, the rarest ({rarest}) met {count} times; \
-             {} pieces written",
-            met.len(),
-            self.orders.iter().sum::<u64>()
-        ))
+        let sides = sides_met(&met, "buffers, pieces and runs")?;
+        let pieces: u64 = self.orders.iter().sum();
+        Ok(format!("{sides}; {pieces} pieces written"))
     }
 }
 
-fn count_in<const N: usize>(counts: &mut [u64; N], holds: [bool; N]) {
+/// How many sides were met and how often the rarest, or which were not.
+pub fn sides_met(met: &[(String, u64)], of: &str) -> Result<String, String> {
+    let never: Vec<&str> = (met.iter().filter(|side| side.1 == 0))
+        .map(|side| &side.0[..])
+        .collect();
+    if !never.is_empty() {
+        return Err(format!("never met: {}", never.join("; ")));
+    }
+    let (rarest, count) = met.iter().min_by_key(|side| side.1).expect("some");
+    Ok(format!(
+        "{} sides of {of}, the rarest ({rarest}) met {count} times",
+        met.len()
+    ))
+}
+
+pub fn count_in<const N: usize>(counts: &mut [u64; N], holds: [bool; N]) {
     for (count, holds) in counts.iter_mut().zip(holds) {
         *count += u64::from(holds);
     }

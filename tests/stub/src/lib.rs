@@ -431,6 +431,9 @@ struct Query {
 
 /// The address that find gives, and the end of the gap that holds it.
 fn search(block: &Block, query: &Query) -> Option<(u64, u64)> {
+    if query.node != ANY && gives_up_at_once(block, query) {
+        return None;
+    }
     // mutant 15: start is not raised to 4096
     let lowest = if mutant(15) { 0 } else { 4096 };
     let start = query.start.max(lowest);
@@ -443,7 +446,10 @@ fn search(block: &Block, query: &Query) -> Option<(u64, u64)> {
     // mutant 61: a limit below the start cuts no named end
     // mutant 62: a limit of 0 cuts no named end
     // mutant 63: a limit of 1 to 4095 cuts no named end
+    // mutant 440: of a named node: the limit cuts no named end where another node's memory is the last
+    let is_anothers = |rec: &Rec| query.node != ANY && rec.node != query.node;
     let as_given = mutant(16)
+        || mutant(440) && block.memory.last().is_some_and(is_anothers)
         || mutant(60) && query.takes
         || mutant(61) && block.limit < start
         || mutant(62) && block.limit == 0
@@ -475,7 +481,9 @@ fn search(block: &Block, query: &Query) -> Option<(u64, u64)> {
     // mutant 115: the image end is rounded up to a page
     // mutant 116: an address at the image end is not given, only one above it
     // mutant 117: an address counts as above the image where its range ends above it
+    // mutant 441: of a named node: the image end counts only where all memory is the node's
     let image_end = match block.image_end {
+        _ if mutant(441) && block.memory.iter().any(is_anothers) => 0,
         image_end if mutant(114) && image_end >= end => 0,
         image_end if mutant(115) => round_up(image_end, PAGE).unwrap_or(u64::MAX),
         image_end if mutant(116) => image_end.saturating_add(1),
@@ -486,7 +494,11 @@ fn search(block: &Block, query: &Query) -> Option<(u64, u64)> {
     if bottom_up {
         // mutant 118: a bottom-up block answers 5 where all is below the image
         // mutant 119: allocate answers 5 there
-        let gives_up = mutant(118) || mutant(119) && query.takes;
+        // mutant 442: of a named node: 5 there where another node's memory is above the image
+        let others_above = |rec: &Rec| is_anothers(rec) && rec.end > image_end;
+        let gives_up = mutant(118)
+            || mutant(119) && query.takes
+            || mutant(442) && block.memory.iter().any(others_above);
         // mutant 120: the other way gives the lowest
         // mutant 121: the other way gives no range that ends above the image
         let to = if mutant(121) { end.min(above) } else { end };
@@ -501,18 +513,84 @@ fn search(block: &Block, query: &Query) -> Option<(u64, u64)> {
     }
 }
 
+/// Whether a search for a named node looks no further.
+fn gives_up_at_once(block: &Block, query: &Query) -> bool {
+    let total = |list: &[Rec]| list.iter().map(|rec| rec.end - rec.base).sum::<u64>();
+    // mutant 438: of a named node: 5 for a size above the memory total less the taken total
+    let free = || total(&block.memory).saturating_sub(total(&block.taken));
+    // mutant 439: of a named node: find answers 5 where the taken table is full
+    let full = block.taken.len() == NOW.capacity[1];
+    mutant(438) && query.size > free() || mutant(439) && full && !query.takes
+}
+
+/// What is taken, as a search for a named node sees it in one of its records.
+fn seen(block: &Block, rec: &Rec) -> Vec<Rec> {
+    let mut taken = block.taken.clone();
+    let before = |m: &&Rec| m.end <= rec.base;
+    match () {
+        // mutant 432: of a named node: as many taken records are looked at as there are memory records
+        _ if mutant(432) => taken.truncate(block.memory.len()),
+        // mutant 433: of a named node: what is taken is rounded out to pages
+        _ if mutant(433) => taken.iter_mut().for_each(|t| {
+            t.base &= !(PAGE - 1);
+            t.end = round_up(t.end, PAGE).unwrap_or(u64::MAX);
+        }),
+        // mutant 434: of a named node: a taken record that begins below the memory record is passed over
+        _ if mutant(434) => taken.retain(|t| t.base >= rec.base),
+        // mutant 435: of a named node: a taken record that ends above the memory record is passed over
+        _ if mutant(435) => taken.retain(|t| t.end <= rec.end),
+        // mutant 436: of a named node: a taken record counts in the first memory record it meets alone
+        _ if mutant(436) => taken.retain(|t| {
+            let mut met = block.memory.iter().take_while(before);
+            !met.any(|m| m.base < t.end && t.base < m.end)
+        }),
+        _ => {}
+    }
+    taken
+}
+
+/// The end of a run that ends with its record, as a search for a named node tells it.
+fn told_end(block: &Block, rec: &Rec) -> u64 {
+    let behind = block.memory.iter().find(|m| m.base >= rec.end);
+    match behind {
+        // mutant 430: of a named node: the run's end is that of memory of its flags that touches
+        Some(m) if mutant(430) && m.base == rec.end && m.flags == rec.flags => m.end,
+        // mutant 431: of a named node: the run's end is where the next memory record begins
+        Some(m) if mutant(431) => m.base,
+        _ => rec.end,
+    }
+}
+
 /// The first address that fits between start and end, going up or down, and the end of
 /// the gap that holds it.
 fn walk(block: &Block, query: &Query, start: u64, end: u64, bottom_up: bool) -> Option<(u64, u64)> {
+    let named = query.node != ANY;
     let mut memory = walked(&block.memory, query.wish);
+    // mutant 429: of a named node: memory that touches is one run by its flags alone
+    if mutant(429) && named {
+        memory.dedup_by(|b, a| {
+            let one = a.end == b.base && a.flags == b.flags;
+            a.end = if one { b.end } else { a.end };
+            one
+        });
+    }
     if !bottom_up {
         memory.reverse();
     }
+    let mut met = false;
     for rec in &memory {
+        // mutant 437: of a named node: the walk ends at another node's memory behind the node's
+        if mutant(437) && named && met && rec.node != query.node {
+            break;
+        }
+        met |= rec.node == query.node;
         if !offered(rec, query.node, query.wish) {
             continue;
         }
-        let mut gaps = gaps(rec, &block.taken);
+        let mut gaps = match named {
+            true => gaps(rec, &seen(block, rec)),
+            false => gaps(rec, &block.taken),
+        };
         if !bottom_up {
             gaps.reverse();
         }
@@ -534,6 +612,7 @@ fn walk(block: &Block, query: &Query, start: u64, end: u64, bottom_up: bool) -> 
                 _ if mutant(89) && !bottom_up => hi,
                 _ if mutant(90) => run_end.min(block.limit),
                 _ if mutant(91) => rec.end,
+                _ if named && run_end == rec.end => told_end(block, rec),
                 _ => run_end,
             };
             if bottom_up {
@@ -566,6 +645,15 @@ fn walk(block: &Block, query: &Query, start: u64, end: u64, bottom_up: bool) -> 
 /// The checks of find, in their order, up to the address and its run's end.
 fn look(block: &[u8], query: &Query) -> Result<(Block, u64, u64), u32> {
     let block = parse(block).ok_or(1u32)?;
+    // mutant 443: a node above all that have memory gets 2
+    // mutant 444: 5 where there is no memory comes first
+    let all_below = block.memory.iter().all(|rec| rec.node < query.node);
+    if mutant(443) && query.node != ANY && all_below {
+        return Err(2);
+    }
+    if mutant(444) && block.memory.is_empty() {
+        return Err(5);
+    }
     if !may_ask(query.node, query.wish) {
         return Err(2);
     }
@@ -1148,6 +1236,12 @@ pub unsafe extern "C" fn memblock_find(
         takes: false,
     };
     let answer = look(lent(block, len), &query).map(|(_, a, end)| (a, end));
+    // mutant 445: find writes the memory total beside 5
+    if mutant(445) && answer == Err(5) {
+        let total = u64_at(lent(block, len), 56);
+        tell(lent_mut(slip, slip_len), Ok((0, total)));
+        return 5;
+    }
     // mutant 30: find writes one byte past the slip
     if mutant(30) && answer.is_ok() {
         slip.add(16).write(0);

@@ -1,37 +1,48 @@
 -- One node's answers stand alone, of the exported find; boards that show each premise needed, and that allocate is not so. Assumes nothing.
-use Prim.Native.Nat.{ℕ, zero, suc, _+_, _-_, _^_, _≤_, _<_}
+use Prim.Native.Nat.{ℕ, zero, suc, _+_, _*_, _-_, _^_, _≤_, _<_}
 use mathlib.Core.Path.{_≡_, refl, sym, ap, _∙_}
 use mathlib.Core.Bool.{Bool, true, false, cond, not, _&&_}
 use mathlib.Core.List.{List, [], _∷_}
 use mathlib.Core.Logic.{_⊎_, inl, inr}
 use lib.Dec.{eqb}
+use lib.ListN.{length}
 use native.Mathlib.Omega.{arith}
 use borrow.Author.Tests.{eq-eqb}
 use Rattle.address.specs.Numbers.{powerBelow}
 use Rattle.address.proofs.Tests.{both, and, clash, le-or-lt}
 use Rattle.regions.specs.declared.Region.{Region}
+use Rattle.regions.specs.declared.State.{State}
 use Rattle.regions.specs.declared.State.the-variants.{Absent, Present}
-use Rattle.regions.specs.Meaning.{region, inside, at, push, join}
+use Rattle.regions.specs.declared.Change.the-variants.{Fill}
+use Rattle.regions.specs.Meaning.{region, inside, at, push, join, top, top-is}
 use Rattle.regions.specs.Lists.{fits, rises, legal, legalTag}
-use Rattle.regions.specs.Changes.{change, present}
-use Rattle.regions.specs.Bytes.{bytes}
+use Rattle.regions.specs.Changes.{change, cut, changed, present}
+use Rattle.regions.specs.Bytes.{number, bytes}
 use Rattle.regions.specs.Steps.{stretch}
+use Rattle.regions.proofs.Rises.{Fits, Rises, ended, next, reach}
 use Rattle.regions.proofs.RoundTrip.{at-before, at-past}
-use Rattle.block.specs.Block.{capacity, current, Contents, settings, freshContents, blockBytes, sameBytes}
+use Rattle.regions.proofs.Middle.{starts}
+use Rattle.regions.proofs.Gap.{fill-apart}
+use Rattle.block.specs.Block.{capacity, current, Contents, settings, freshContents, blockBytes, contents, sameBytes}
 use Rattle.block.proofs.Same.{same-self}
-use Rattle.block.proofs.Reading.{contents-spelled, good-spelled-block}
+use Rattle.block.proofs.Reading.{Spellable, contents-spelled, good-spelled-block}
 use Rattle.block.proofs.Layouts.{small-current}
 use Rattle.range.specs.Outcomes.{tag}
+use Rattle.tables.specs.declared.commands.Verb.the-variants.{Reserve}
+use Rattle.tables.specs.Commands.{command, commandOutcome}
+use Rattle.tables.proofs.DemandTwo.{full-sentence}
 use Rattle.fits.specs.declared.Query.{Query}
 use Rattle.fits.specs.Eligible.{query}
 use Rattle.fits.specs.Steps.{cutLow, cutHigh, fitLow, fitHigh}
-use Rattle.search.specs.Answers.{Answer}
+use Rattle.search.specs.Answers.{Answer, SameAnswer, answer, slipOf}
 use Rattle.search.specs.Alone.{ofNode, nodeMemory, AgreeOnNode, SameOn, Named}
+use Rattle.search.proofs.Answering.{slip-first}
+use Rattle.search.proofs.Reserving.{reserve-sentence}
 use Rattle.search.proofs.Alone.{node-alone}
 use Rattle.memblock.specs.Calls.{Call, toFind, toAllocate, answerOf}
 use Rattle.memblock.specs.Cases.{lent, of}
 use Rattle.memblock.specs.Alone.{finding, AloneSentence, noDirection, noLimit, noImage, noMemory, noTaken, SameBut, SameButTags, NeededSentence, RoomShared}
-use Rattle.memblock.proofs.Computing.{sound, compute, computable, sound-spellable, call-computed}
+use Rattle.memblock.proofs.Computing.{sound, spelled, compute, computable, sound-spellable, call-computed}
 use Rattle.regions.proofs.Update as table
 use Rattle.fits.proofs.Ways as walks
 
@@ -138,39 +149,83 @@ full-agrees = record { direction = refl; limit = refl; image = refl; memory = λ
     go a f (inl h) = absurd (f (ap (ofNode 0) (at-past (of 0x10000 0x10000 0) [] a (omega arith))))
     go a f (inr h) = sym (ap present (none-below 0x30000 512 a h))
 
-plain-sound : sound plain ≡ true
+plain-good : Spellable current plain
 unfolding capacity rises legal legalTag fits
-plain-sound = refl
+plain-good = sound-spellable plain refl
 
-full-sound : sound full ≡ true
+full-good : Spellable current full
 unfolding full singles capacity rises legal legalTag fits
-full-sound = refl
+full-good = sound-spellable full refl
 
-asked : computable (toAllocate (page 0) lent) ≡ true
+-- on the plain board find gives the page below 0x20000; by the sentence it does so on the full one
+plain-found : spelled (compute (toFind (page 0) lent) plain) ≡ answer 0 (blockBytes current plain) (slipOf 0x1F000 0x20000)
+unfolding compute cutLow cutHigh fitLow fitHigh walks.gaps walks.walk walks.onto walks.falling
+plain-found = refl
+
+asked : computable (toFind (page 0) lent) ≡ true
 unfolding computable powerBelow
 asked = refl
+
+-- the plain and the full board, in blocks that agree
+agreeing : AgreeOnNode 0 (contents current (blockBytes current plain)) (contents current (blockBytes current full))
+agreeing = rw (contents-spelled current small-current plain plain-good, contents-spelled current small-current full full-good) full-agrees
+
+same-found : SameAnswer (finding (page 0) (blockBytes current plain) lent) (finding (page 0) (blockBytes current full) lent)
+same-found =
+    alone-sentence (page 0) node-0 (blockBytes current plain) (blockBytes current full) (good-spelled-block current small-current plain plain-good)
+    (good-spelled-block current small-current full full-good) agreeing lent
+
+-- so many records rise from c on
+singles-rise : (c n m e : ℕ) (v : State) → e < c → c + 2 * n ≤ m → Rises e v m (singles c n)
+unfolding singles
+singles-rise c zero m e v h l = let k : e ≤ m = omega arith in ended k
+singles-rise c (suc n) m e v h l =
+    let f : Fits e v (of c 1 0) = record { low = omega arith; apart = λ x y. omega arith; some = omega arith } in
+    next f (singles-rise (c + 2) n m (c + 1) (Present (tag 0 0)) (omega arith) (omega arith))
+
+length-singles : (c n : ℕ) → length (singles c n) ≡ n
+unfolding singles
+length-singles c zero = refl
+length-singles c (suc n) = ap suc (length-singles (c + 2) n)
+
+-- that page makes one record more
+one-more : changed (Fill (tag 0 0)) 0x1F000 0x1000 (singles 0x30000 512) ≡ of 0x1F000 0x1000 0 ∷ singles 0x30000 512
+unfolding changed singles starts reach join
+one-more =
+    let e : cut 0x1F000 0x1000 ≡ 0x20000 = omega (arith, top-is) in
+    rw e
+    (fill-apart (tag 0 0) 0x1F000 0x20000 top [] (singles 0x30000 512) (singles-rise 0x30000 512 top 0 Absent (omega arith) (omega (arith, top-is))) (omega arith) (omega arith)
+    (omega arith) (singles-rise 0x30000 512 top 0x20000 (Present (tag 0 0)) (omega arith) (omega (arith, top-is))))
+
+-- for which there is no room
+full-refused : commandOutcome current (command Reserve 0x1F000 0x1000) (blockBytes current full) .number ≡ 6
+unfolding full capacity
+full-refused =
+    full-sentence current (command Reserve 0x1F000 0x1000) (blockBytes current full) .1
+    (record { isGood = good-spelled-block current small-current full full-good; legal = refl; no-room = rw (contents-spelled current small-current full full-good, one-more, length-singles) (omega arith) })
 
 plain-done : compute (toAllocate (page 0) lent) plain .number ≡ 0
 unfolding compute capacity change bytes push join stretch table.walk table.update cutLow cutHigh fitLow fitHigh walks.gaps walks.walk walks.onto walks.falling
 plain-done = refl
 
-full-refused : compute (toAllocate (page 0) lent) full .number ≡ 6
-unfolding full singles compute capacity change bytes push join stretch table.walk table.update cutLow cutHigh fitLow fitHigh walks.gaps walks.walk walks.onto walks.falling
-full-refused = refl
-
 pub room-shared : RoomShared
+unfolding answerOf computable
 room-shared =
-    let x = sound-spellable plain plain-sound in
-    let y = sound-spellable full full-sound in
+    let b : List ℕ = blockBytes current full in
+    let p : finding (page 0) (blockBytes current plain) lent ≡ answer 0 (blockBytes current plain) (slipOf 0x1F000 0x20000) =
+    call-computed (toFind (page 0) lent) plain plain-good asked ∙ plain-found in
+    let n : finding (page 0) b lent .number ≡ 0 = sym (same-found .number) ∙ ap (λ (z : Answer). z .number) p in
+    let a : number 8 (finding (page 0) b lent .slip) ≡ 0x1F000 =
+    ap (number 8) (sym (same-found .slip) ∙ ap (λ (z : Answer). z .slip) p) ∙ slip-first 0x1F000 0x20000 (omega (arith, top-is)) in
     record {
       query = page 0;
       slip = lent;
       roomy = blockBytes current plain;
-      full = blockBytes current full;
+      full = b;
       named = node-0;
-      roomy-good = good-spelled-block current small-current plain x;
-      full-good = good-spelled-block current small-current full y;
-      agree = rw (contents-spelled current small-current plain x, contents-spelled current small-current full y) full-agrees;
-      done = ap (λ (z : Answer). z .number) (call-computed (toAllocate (page 0) lent) plain x asked) ∙ plain-done;
-      refused = ap (λ (z : Answer). z .number) (call-computed (toAllocate (page 0) lent) full y asked) ∙ full-refused;
+      roomy-good = good-spelled-block current small-current plain plain-good;
+      full-good = good-spelled-block current small-current full full-good;
+      agree = agreeing;
+      done = ap (λ (z : Answer). z .number) (call-computed (toAllocate (page 0) lent) plain plain-good asked) ∙ plain-done;
+      refused = reserve-sentence current (page 0) b lent .number n ∙ rw a full-refused;
     }

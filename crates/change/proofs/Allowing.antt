@@ -21,13 +21,14 @@ use Rattle.regions.specs.declared.Change.the-variants.{Fill}
 use Rattle.regions.specs.Meaning.{end, at, shortest, top, top-is}
 use Rattle.regions.specs.Bytes.{readRegion, readRegions}
 use Rattle.regions.specs.Changes.{change, after, allowed}
-use Rattle.regions.proofs.Rises.{Canonical, reach, rises-Rises}
+use Rattle.regions.proofs.Rises.{Canonical, reach}
 use Rattle.regions.proofs.RoundTrip.{rises-below, at-here, at-before, at-past}
 use Rattle.regions.proofs.Prefix.{rest-at}
 use Rattle.regions.proofs.Trim.{rises-apart}
 use Rattle.regions.proofs.AllPresent.{AbsentIn, each-all, absent-not-all}
 use Rattle.records.specs.Steps.{endingBy, Table}
 use Rattle.records.proofs.Placing.{ending-reach, ending-past, place-le}
+use Rattle.records.proofs.Parts.{table-rises, parts-rise, none-left, rest-begins, behind-rises, ends-by-top}
 use Rattle.change.specs.declared.inplace.Changed.{Changed}
 use Rattle.change.specs.declared.inplace.Changed.the-variants.{Missing}
 use Rattle.change.specs.declared.gap.Gap.{Gap}
@@ -36,7 +37,6 @@ use Rattle.lists.specs.declared.Edit.{Edit}
 use Rattle.lists.specs.Steps.{finished}
 use Rattle.change.specs.Steps.{OneTagged, Stored, StoredIf, GapAs}
 use Rattle.change.proofs.Filling.{gap-at}
-use Rattle.change.proofs.Parts.{parts-rise, none-left, rest-begins, behind-rises, ends-by-top}
 use Rattle.change.proofs.Tagged.{tagged-drop, tagged-at}
 
 -- ---- nothing to look for
@@ -77,7 +77,7 @@ module _ (strict : Bool) (s : not strict ≡ false) (l : List ℕ) (n i lo hi : 
     ends = go (le-or-lt (end r) (lo - 1))
       where
         c : Canonical top (readRegions n l)
-        c = rises-Rises 0 Absent top (readRegions n l) (w .rising)
+        c = table-rises l n w
 
         go : (end r ≤ lo - 1) ⊎ (lo - 1 < end r) → lo ≤ end r
         go (inl j) = absurd (omega (arith, ending-past (lo - 1) i n l c h (rw (← here) j)))

@@ -24,7 +24,7 @@ use Rattle.regions.specs.Lists.{rises}
 use Rattle.regions.specs.Changes.{change, after}
 use Rattle.regions.specs.Bytes.{number, readRegion, readRegions, tableBytes}
 use Rattle.regions.proofs.Push.{same-true, same-self, joins-true}
-use Rattle.regions.proofs.Rises.{Fits, Rises, ended, next, Canonical, reach, edge, rises-Rises, Rises-rises}
+use Rattle.regions.proofs.Rises.{Fits, Rises, ended, next, Canonical, reach, edge, Rises-rises}
 use Rattle.regions.proofs.RoundTrip.{canonical-shortest, join-snoc, at-here, at-past}
 use Rattle.regions.proofs.Middle.{starts, canonical-part}
 use Rattle.regions.proofs.Gap.{fill-apart, fill-meets, fill-total}
@@ -41,7 +41,7 @@ use Rattle.records.specs.Steps.{endingBy, put, Table, Whole}
 use Rattle.change.specs.Steps.{clearTo, Stored, JoinedBelow, JoinedAbove, Fills, GapAs, Vacant}
 use Rattle.records.proofs.Placing.{further, ending-reach, ending-above, ending-past, place-le}
 use Rattle.records.proofs.Placing.{take-read, drop-read}
-use Rattle.change.proofs.Parts.{parts-rise, none-left, rest-begins, rest-rises, ends-by-top}
+use Rattle.records.proofs.Parts.{table-rises, parts-rise, none-left, rest-begins, rest-rises, ends-by-top}
 use Rattle.change.proofs.Splicing.{splice-full, put-done}
 
 -- ---- is it free
@@ -93,7 +93,7 @@ module _ (l : List ℕ) (n a i : ℕ) (w : Table l n) (e : i ≡ endingBy (a - 1
     from-next f = go (le-or-lt n (i + 1)) (le-or-lt (end (readRegion (drop (24 * i) l))) (a - 1))
       where
         c : Canonical top (readRegions n l)
-        c = rises-Rises 0 Absent top (readRegions n l) (w .rising)
+        c = table-rises l n w
 
         g : end (readRegion (drop (24 * i) l)) ≤ a
         g = leb-true (end (readRegion (drop (24 * i) l))) a (sym q ∙ f)
@@ -285,4 +285,4 @@ vacant-clear lo hi m (next {r = r} {rs = rs} f w) h = go (leb (end r) lo) refl (
 -- the place of such a range in a table
 pub vacant-gap : (l : List ℕ) (n : ℕ) → Table l n → (lo hi i : ℕ) → lo < hi → Vacant lo hi (readRegions n l) → i ≡ endingBy lo (readRegions n l)
     → clearTo hi (drop i (readRegions n l)) ≡ true
-vacant-gap l n w lo hi i m h e = rw e (vacant-clear lo hi m (rises-Rises 0 Absent top (readRegions n l) (w .rising)) h)
+vacant-gap l n w lo hi i m h e = rw e (vacant-clear lo hi m (table-rises l n w) h)

@@ -1,7 +1,6 @@
 pub mod Allowing
 pub mod Filling
 pub mod Meeting
-pub mod Parts
 pub mod Rebuilding
 pub mod Splicing
 pub mod Tagged

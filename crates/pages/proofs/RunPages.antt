@@ -47,14 +47,14 @@ module _ (runs : List Region) (w : Canonical top runs) where
       where
         go : (hi ≤ top) ⊎ (top < hi) → hi ≤ top
         go (inl l) = l
-        go (inr l) = let d = sym (n .all (hi - 1) (omega (arith, n .some)) (omega arith)) ∙ rises-above (hi - 1) w (omega arith) in absurd (zero-not-one cc)
+        go (inr l) = let d = sym (n .run .all (hi - 1) (omega (arith, n .some)) (omega arith)) ∙ rises-above (hi - 1) w (omega arith) in absurd (zero-not-one cc)
 
     -- a page that the run ends in
     pub last-page : (q : ℕ) → lo ≤ 4096 * q → 4096 * q < hi → hi < 4096 * q + 4096 → orderAt (whole runs) q ≡ none
     last-page q i j k =
         not-whole q
         (λ e. let s = page-tag q e in
-        n .stops (s .all hi (omega arith) k ∙ sym (s .all (4096 * q) (omega arith) (omega arith)) ∙ n .all (4096 * q) i j))
+        n .run .stops (s .all hi (omega arith) k ∙ sym (s .all (4096 * q) (omega arith) (omega arith)) ∙ n .run .all (4096 * q) i j))
 
     -- in the run its own pages count
     module _ (f l q : ℕ) (first : f ≡ (lo + 4095) / 4096) (last : l ≡ hi / 4096) (from : f ≤ q) (past : q < l) where
@@ -72,14 +72,14 @@ module _ (runs : List Region) (w : Canonical top runs) where
           j = down-near q (2 ^ o) (pow-pos o)
 
           there : at runs (4096 * q) ≡ Present (n .tag)
-          there = n .all (4096 * q) (omega (arith, i, j)) (omega (arith, i, j))
+          there = n .run .all (4096 * q) (omega (arith, i, j)) (omega (arith, i, j))
 
           low : OneTag (at runs) (wanted 4294967295 1) (4096 * 2 ^ o) (4096 * s) → (lo ≤ 4096 * s) ⊎ (4096 * s < lo) → lo ≤ 4096 * s
           low t (inl x) = x
           low t (inr x) =
               let u = t .all (lo - 1) (omega (arith, i, j)) (omega (arith, i, j)) in
               let v = t .all (4096 * q) (omega (arith, i, j)) (omega (arith, i, j)) in
-              absurd (n .begins (lo - 1) (omega (arith, i, j)) (u ∙ sym v ∙ there))
+              absurd (n .run .begins (lo - 1) (omega (arith, i, j)) (u ∙ sym v ∙ there))
 
           high : OneTag (at runs) (wanted 4294967295 1) (4096 * 2 ^ o) (4096 * s) → (4096 * s + 4096 * 2 ^ o ≤ hi) ⊎ (hi < 4096 * s + 4096 * 2 ^ o)
               → 4096 * s + 4096 * 2 ^ o ≤ hi
@@ -87,7 +87,7 @@ module _ (runs : List Region) (w : Canonical top runs) where
           high t (inr x) =
               let u = t .all hi (omega (arith, i, j)) (omega (arith, i, j)) in
               let v = t .all (4096 * q) (omega (arith, i, j)) (omega (arith, i, j)) in
-              absurd (n .stops (u ∙ sym v ∙ there))
+              absurd (n .run .stops (u ∙ sym v ∙ there))
 
           to : inOne (wanted 4294967295 1) (4096 * 2 ^ o) (4096 * s) runs ≡ true → leb f s && leb (s + 2 ^ o) l ≡ true
           to e =
@@ -102,7 +102,7 @@ module _ (runs : List Region) (w : Canonical top runs) where
               let x = leb-true f s (p .0) in
               let y = leb-true (s + 2 ^ o) l (p .1) in
               in-one (wanted 4294967295 1) (4096 * 2 ^ o) (4096 * s) (n .tag) w (omega (arith, pow-pos o)) (all-wanted (n .tag))
-              (λ b u v. n .all b (omega (arith, i, j)) (omega (arith, i, j)))
+              (λ b u v. n .run .all b (omega (arith, i, j)) (omega (arith, i, j)))
 
       pub in-run : orderAt (whole runs) q ≡ orderAt (within f l) q
       in-run = order-same (whole runs) (within f l) q (λ o h. inside-run o)

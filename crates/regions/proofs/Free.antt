@@ -17,7 +17,7 @@ use Rattle.regions.proofs.RoundTrip.{rises-above, at-shortest, at-short
 use Rattle.regions.proofs.Lying.{passes}
 
 -- usable memory has memory's tag
-usable-is : (v : State) (t : Tag) → usable v ≡ Present t → v ≡ Present t
+pub usable-is : (v : State) (t : Tag) → usable v ≡ Present t → v ≡ Present t
 usable-is Absent t e = e
 usable-is (Present u) t e = go (has 4 (u .flags)) e
   where
@@ -33,18 +33,19 @@ untaken-is : (v u : State) (t : Tag) → untaken v u ≡ Present t → v ≡ Pre
 untaken-is v Absent t e = e
 untaken-is v (Present s) t e = absurd (zero-not-one cc)
 
+-- where there is no memory nothing is free
+pub untaken-absent : (v : State) → untaken Absent v ≡ Absent
+untaken-absent Absent = refl
+untaken-absent (Present t) = refl
+
 -- the runs say what is free, at every address
 pub runs-at : (ms ts : List Region) → Canonical top ms → (a : ℕ) → at (freeRuns ms ts) a ≡ freeMemory (at ms) (at ts) a
 unfolding freeMemory freeRuns
 runs-at ms ts w a = go (le-or-lt top a)
   where
-    nothing : (v : State) → untaken Absent v ≡ Absent
-    nothing Absent = refl
-    nothing (Present t) = refl
-
     go : (top ≤ a) ⊎ (a < top) → at (freeRuns ms ts) a ≡ freeMemory (at ms) (at ts) a
     go (inl h) =
-        at-shortest-above (freeMemory (at ms) (at ts)) top a h ∙ sym (ap (λ (x : State). untaken (usable x) (at ts a)) (rises-above a w h) ∙ nothing (at ts a))
+        at-shortest-above (freeMemory (at ms) (at ts)) top a h ∙ sym (ap (λ (x : State). untaken (usable x) (at ts a)) (rises-above a w h) ∙ untaken-absent (at ts a))
     go (inr h) = at-shortest (freeMemory (at ms) (at ts)) top a h
 
 -- they are a shortest list

@@ -14,6 +14,7 @@ use Rattle.regions.specs.declared.State.{State}
 use Rattle.regions.specs.declared.State.the-variants.{Absent, Present}
 use Rattle.regions.specs.Meaning.{Meaning, end, at, shortest, top}
 use Rattle.regions.specs.Runs.{liesIn, inOne, OneTag, runOf, runAt}
+use Rattle.regions.specs.Steps.{Longest, Parted}
 use Rattle.regions.proofs.Rises.{Rises, ended, next}
 use Rattle.regions.proofs.RoundTrip.{inside-yes, inside-past, rises-end, rises-below, at-here, at-before, at-past, at-shortest, canonical-shortest}
 use Rattle.regions.proofs.Trim.{rises-apart}
@@ -119,12 +120,6 @@ module _ (p : Tag → Bool) (size a : ℕ) (pos : 0 < size) {c n : ℕ} {v : Sta
 
 -- ---- runs
 
--- from lo to hi all addresses have the tag t, and those beside have not: a run
-pub record Longest (xs : List Region) (t : Tag) (lo hi : ℕ) : Type 0 where
-  pub all : (b : ℕ) → lo ≤ b → b < hi → at xs b ≡ Present t
-  pub stops : at xs hi ≡ Present t → ⊥
-  pub begins : (b : ℕ) → suc b ≡ lo → at xs b ≡ Present t → ⊥
-
 run-here : (r : Region) (rs : List Region) (a : ℕ) → r .base .0 ≤ a → a < end r → runOf (r .base .0) (end r) ≡ runAt (r ∷ rs) a
 unfolding runAt
 run-here r rs a i j = rw (inside-yes (r .base .0) (end r) a i j)
@@ -203,10 +198,6 @@ run-is t lo a hi w i h l =
     rw (d, e) (s .is)
 
 -- ---- lists that have the tags that pass at the same addresses, from d on
-
--- no run reaches across d
-abbrev pub Parted : List Region → ℕ → Type 0
-Parted xs d = (b : ℕ) (t : Tag) → suc b ≡ d → at xs b ≡ Present t → at xs d ≡ Present t → ⊥
 
 -- ys has each tag that passes where xs has it
 abbrev pub Within : (Tag → Bool) → ℕ → List Region → List Region → Type 0

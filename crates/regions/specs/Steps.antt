@@ -1,12 +1,14 @@
--- Steps of a walk over a table. Only inner contracts and proofs cite this module. Assumes nothing.
-use Prim.Native.Nat.{ℕ, _-_, _≤_, _<_, min, max}
+-- Steps of a walk over a table, and the runs of a list. Only inner contracts and proofs cite this module. Assumes nothing.
+use Prim.Native.Nat.{ℕ, suc, _-_, _≤_, _<_, min, max}
+use mathlib.Core.Path.{_≡_}
 use mathlib.Core.List.{List}
+use Rattle.regions.specs.declared.Tag.{Tag}
 use Rattle.regions.specs.declared.Region.{Region}
 use Rattle.regions.specs.declared.State.{State}
 use Rattle.regions.specs.declared.State.the-variants.{Absent, Present}
 use Rattle.regions.specs.declared.Change.{Change}
 use Rattle.regions.specs.declared.Change.the-variants.{Fill, Clear, Mark, Unmark}
-use Rattle.regions.specs.Meaning.{push}
+use Rattle.regions.specs.Meaning.{at, push}
 
 -- a change whose flag is one of the three weights or between them
 abbrev pub FlagBounded : Change → Type 0
@@ -26,3 +28,13 @@ stretch k lo hi acc c e v =
     let m = max c (min lo e) in
     let p = max c (min hi e) in
     push (push (push acc c (m - c) v) m (p - m) (k v)) p (e - p) v
+
+-- from lo to hi all addresses have the tag t, and those beside have not: a run
+pub record Longest (xs : List Region) (t : Tag) (lo hi : ℕ) : Type 0 where
+  pub all : (b : ℕ) → lo ≤ b → b < hi → at xs b ≡ Present t
+  pub stops : at xs hi ≡ Present t → ⊥
+  pub begins : (b : ℕ) → suc b ≡ lo → at xs b ≡ Present t → ⊥
+
+-- no run reaches across d
+abbrev pub Parted : List Region → ℕ → Type 0
+Parted xs d = (b : ℕ) (t : Tag) → suc b ≡ d → at xs b ≡ Present t → at xs d ≡ Present t → ⊥

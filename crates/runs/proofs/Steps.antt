@@ -8,7 +8,7 @@ use mathlib.Core.Option.{Option, none, some}
 use native.Mathlib.Omega.{arith}
 use native.Mathlib.Nat.{not-suc-le-zero, le-of-suc-le-suc, mul-suc}
 use lib.Dec.{leb, ltb}
-use lib.ListN.{length, drop}
+use lib.ListN.{drop}
 use lib.Seq.{drop-drop}
 use borrow.Author.Tests.{le-leb, lt-leb, lt-ltb, le-ltb, eq-eqb, ne-eqb, leb-false}
 use Rattle.address.specs.declared.Address.{Address}
@@ -30,6 +30,7 @@ use Rattle.regions.proofs.Records.{read-regions-rest, read-regions-end}
 use Rattle.records.specs.Steps.{Table, endingBy}
 use Rattle.records.proofs.Placing.{ending-above, place-le}
 use Rattle.records.proofs.Tables.{good-table}
+use Rattle.records.proofs.Parts.{ends-by-top}
 use Rattle.records.proofs.Placing.{drop-read}
 use Rattle.fits.specs.declared.Query.{Query}
 use Rattle.runs.specs.declared.Bounds.{Bounds}
@@ -62,9 +63,8 @@ record-at (suc k) (suc i) l (next f w) h =
     rw e at (record-at k i (drop 24 l) w (le-of-suc-le-suc h))
 
 -- it ends below 2^64
-pub past-fits : (t : Kind) (k i : ℕ) (l : List ℕ) (r : Region) → goodList t (readRegions k l) ≡ true → i < k → r ≡ readRegion (drop (24 * i) l)
-    → r .base .0 + r .size .0 < 18446744073709551616
-past-fits t k i l r g h e = rw e (omega (arith, record-at k i l (good-rises t (readRegions k l) g) h .past, top-is))
+pub past-fits : (l : List ℕ) (n i : ℕ) (r : Region) → Table l n → i < n → r ≡ readRegion (drop (24 * i) l) → end r < 18446744073709551616
+past-fits l n i r w h e = omega (arith, ends-by-top l n i w (omega arith) h r e, top-is)
 
 -- ---- the place i in a table of n records
 
@@ -418,10 +418,6 @@ module _ (memory : List ℕ) (mcount : ℕ) (taken : List ℕ) (tcount : ℕ) (q
 
   pub taken-table : Searchable memory mcount taken tcount q → Table taken tcount
   taken-table p = good-table Taken tcount taken (p .room-taken) (p .good-taken)
-
-  pub some-taken : (j : ℕ) → j ≤ tcount → Searchable memory mcount taken tcount q
-      → (j ≤ tcount) × ((24 * tcount ≤ length taken) × (goodList Taken (readRegions tcount taken) ≡ true))
-  some-taken j h p = (h, (p .room-taken, p .good-taken))
 
   pub begin-up : (i k j : ℕ) (t : Bounds) → Searchable memory mcount taken tcount q → tcount < 18446744073709551616 → i ≡ endingBy (q .start .0) ms
       → k ≡ endingBy (q .start .0) ts → j ≡ k - 1 → t ≡ boundsLow tcount taken j → Walking Up memory mcount taken tcount q (firstIn Up ms ts q) i j t

@@ -17,7 +17,8 @@ use Rattle.regions.specs.Runs.{runAt}
 use Rattle.regions.proofs.Rises.{Canonical}
 use Rattle.regions.proofs.RoundTrip.{at-here, at-before, at-past}
 use Rattle.regions.proofs.Free.{pass-untaken, runs-at, free-canonical, free-memory}
-use Rattle.regions.proofs.Lying.{passes, Longest, run-is, one-run-in}
+use Rattle.regions.specs.Steps.{Longest}
+use Rattle.regions.proofs.Lying.{passes, run-is, one-run-in}
 use Rattle.fits.specs.declared.Query.{Query}
 use Rattle.fits.specs.Eligible.{asks, orElse, eligible}
 use Rattle.fits.specs.Places.{Hit}

@@ -18,7 +18,8 @@ use Rattle.regions.proofs.Rises.{Rises, next, Canonical}
 use Rattle.regions.proofs.RoundTrip.{at-here, at-past, rises-below}
 use Rattle.regions.proofs.Trim.{lower, rises-apart}
 use Rattle.regions.proofs.Free.{runs-at, free-canonical, free-memory}
-use Rattle.regions.proofs.Lying.{Parted, Agree}
+use Rattle.regions.specs.Steps.{Parted}
+use Rattle.regions.proofs.Lying.{Agree}
 use Rattle.records.specs.Steps.{endingBy}
 use Rattle.fits.specs.declared.Query.{Query}
 use Rattle.fits.specs.Eligible.{asks, eligible, lowest}

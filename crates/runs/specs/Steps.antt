@@ -21,7 +21,7 @@ use Rattle.fits.specs.Eligible.{eligible}
 use Rattle.fits.specs.Places.{Hit, hitOf}
 use Rattle.fits.specs.Steps.{extreme}
 
--- ---- the taken record that a walk has come to
+-- ---- the record that a walk has come to, of the taken table
 
 abbrev pub boundsOf : Region → Bounds
 boundsOf r = record { base = r .base; end = record { 0 = end r } }

@@ -13,11 +13,7 @@ use regions::Region;
 use regions::Run;
 use regions::bytes::get_region;
 ghost use mathlib.Core.Path.{_≡_};
-ghost use mathlib.Core.Bool.{true};
-ghost use Prim.Native.Nat.{_*_, _-_, _≤_, _<_};
-ghost use lib.ListN.{length};
-ghost use Rattle.regions.specs.declared.Kind.the-variants.{Taken};
-ghost use Rattle.regions.specs.Lists.{goodList};
+ghost use Prim.Native.Nat.{_-_, _≤_, _<_};
 ghost use Rattle.regions.specs.Meaning.{end as endOf};
 ghost use Rattle.regions.specs.Bytes.{readRegions};
 ghost use Rattle.records.specs.Steps.{Table, endingBy};
@@ -33,34 +29,34 @@ pub fn past(r: Region) -> Address
     r.base.add(r.size)
 }
 
-// Where a taken record begins and ends.
+// Where a record begins and ends.
 pub struct Bounds {
     pub base: Address,
     pub end: Address,
 }
 
-// The bounds of taken record `j`; behind the last, of one at the top that is never met.
-pub fn bounds_low(taken: &[u8], tcount: usize, j: usize) -> Bounds
-    requires { ⌜ (24 * tcount ≤ length (now taken)) × (goodList Taken (readRegions tcount (now taken)) ≡ true) ⌝ }
-    ensures { λ r. ⌜ r ≡ boundsLow tcount (now (taken .entry)) j ⌝ }
+// The bounds of record `j`; behind the last, of one at the top that is never met.
+pub fn bounds_low(t: &[u8], count: usize, j: usize) -> Bounds
+    requires { ⌜ Table (now t) count ⌝ }
+    ensures { λ b. ⌜ b ≡ boundsLow count (now (t .entry)) j ⌝ }
 {
-    if tcount <= j {
+    if count <= j {
         let none = Address(0xFFFF_FFFF_FFFF_FFFF);
         return Bounds {
             base: none,
             end: none,
         };
     }
-    let t = get_region(taken, 24 * j);
-    let base = t.base;
-    let end = past(t);
+    let r = get_region(t, 24 * j);
+    let base = r.base;
+    let end = past(r);
     Bounds { base, end }
 }
 
-// The bounds of the taken record before `j`; before the first, of one at 0 that is never met.
-fn bounds_high(taken: &[u8], tcount: usize, j: usize) -> Bounds
-    requires { ⌜ (j ≤ tcount) × ((24 * tcount ≤ length (now taken)) × (goodList Taken (readRegions tcount (now taken)) ≡ true)) ⌝ }
-    ensures { λ r. ⌜ r ≡ boundsHigh (now (taken .entry)) j ⌝ }
+// The bounds of the record before `j`; before the first, of one at 0 that is never met.
+pub fn bounds_high(t: &[u8], count: usize, j: usize) -> Bounds
+    requires { ⌜ Table (now t) count × (j ≤ count) ⌝ }
+    ensures { λ b. ⌜ b ≡ boundsHigh (now (t .entry)) j ⌝ }
 {
     if j == 0 {
         let none = Address(0);
@@ -69,9 +65,9 @@ fn bounds_high(taken: &[u8], tcount: usize, j: usize) -> Bounds
             end: none,
         };
     }
-    let t = get_region(taken, 24 * (j - 1));
-    let base = t.base;
-    let end = past(t);
+    let r = get_region(t, 24 * (j - 1));
+    let base = r.base;
+    let end = past(r);
     Bounds { base, end }
 }
 

@@ -14,7 +14,7 @@ use Rattle.regions.specs.Changes.{has, present}
 use Rattle.regions.specs.Free.{usable, untaken, freeMemory}
 use Rattle.regions.specs.Runs.{runAt}
 use Rattle.regions.proofs.Rises.{Canonical}
-use Rattle.regions.proofs.Free.{runs-at, free-canonical}
+use Rattle.regions.proofs.Free.{untaken-absent, runs-at, free-canonical}
 use Rattle.regions.proofs.Lying.{Within, Agree}
 use Rattle.block.specs.Block.{current, Contents, contents}
 use Rattle.fits.specs.declared.Query.{Query}
@@ -59,10 +59,7 @@ of-node-free n (Present t) Absent = go (has 4 (t .flags)) refl (eqb (t .node) n)
 
 -- taken in the one and in the other
 untaken-same : (v x y : State) → ((v ≡ Absent → ⊥) → present x ≡ present y) → untaken (usable v) x ≡ untaken (usable v) y
-untaken-same Absent Absent Absent f = refl
-untaken-same Absent Absent (Present u) f = refl
-untaken-same Absent (Present t) Absent f = refl
-untaken-same Absent (Present t) (Present u) f = refl
+untaken-same Absent x y f = untaken-absent x ∙ sym (untaken-absent y)
 untaken-same (Present s) Absent Absent f = refl
 untaken-same (Present s) Absent (Present u) f = let z : false ≡ true = f (λ e. zero-not-one cc) in absurd (zero-not-one cc)
 untaken-same (Present s) (Present t) Absent f = let z : true ≡ false = f (λ e. zero-not-one cc) in absurd (zero-not-one cc)

@@ -1,6 +1,6 @@
 -- What the tests of the searches come to for an address of a good block: eligible, and free from p on. Assumes nothing.
 use Prim.Native.Nat.{ℕ, _+_, _-_, _≤_, _<_, min, max}
-use mathlib.Core.Path.{_≡_, refl, ap, _∙_}
+use mathlib.Core.Path.{_≡_, refl, sym, ap, _∙_}
 use mathlib.Core.Bool.{Bool, true, false, cond}
 use mathlib.Core.Logic.{_⊎_, inl, inr}
 use native.Mathlib.Omega.{arith}
@@ -8,13 +8,13 @@ use lib.Dec.{leb, eqb}
 use borrow.Author.Tests.{leb-true, le-leb, eqb-true, eqb-false}
 use Rattle.address.proofs.Tests.{both, and, le-or-lt, zero-not-one}
 use Rattle.regions.specs.declared.Tag.{Tag}
-use Rattle.regions.specs.declared.State.{State}
 use Rattle.regions.specs.declared.State.the-variants.{Absent, Present}
 use Rattle.regions.specs.Meaning.{at, top}
-use Rattle.regions.specs.Free.{untaken, freeMemory, freeRuns}
+use Rattle.regions.specs.Free.{freeMemory, freeRuns}
 use Rattle.regions.specs.Runs.{inOne, OneTag}
 use Rattle.regions.proofs.Rises.{Canonical}
 use Rattle.regions.proofs.RoundTrip.{rises-above}
+use Rattle.regions.proofs.Free.{untaken-absent}
 use Rattle.regions.proofs.Lying.{in-one-run, one-run-in}
 use Rattle.block.specs.Block.{Contents}
 use Rattle.fits.specs.declared.Query.{Query}
@@ -28,12 +28,8 @@ pub free-below : (s : Contents) → Canonical top (s .memory) → (a : ℕ) (t :
 unfolding freeMemory
 free-below s w a t e = go (le-or-lt top a)
   where
-    nowhere : (v : State) → untaken Absent v ≡ Present t → ⊥
-    nowhere Absent f = absurd (zero-not-one cc)
-    nowhere (Present u) f = absurd (zero-not-one cc)
-
     go : (top ≤ a) ⊎ (a < top) → a < top
-    go (inl h) = absurd (nowhere (at (s .taken) a) (rw (rises-above a w h) at e))
+    go (inl h) = let d : Present t ≡ Absent = sym (rw (rises-above a w h) at e) ∙ untaken-absent (at (s .taken) a) in absurd (zero-not-one cc)
     go (inr h) = h
 
 -- ---- find and allocate

@@ -1,6 +1,6 @@
 -- The free runs of two lists, one after the other: what a sweep has come to says all that lies ahead of it. Assumes nothing.
 use Prim.Native.Nat.{ℕ, suc, _+_, _≤_, _<_, max}
-use mathlib.Core.Path.{_≡_, refl, sym, ap, _∙_}
+use mathlib.Core.Path.{_≡_, sym, ap, _∙_}
 use mathlib.Core.List.{List, [], _∷_, _++_}
 use mathlib.Core.Logic.{_⊎_, inl, inr}
 use native.Mathlib.Omega.{arith}
@@ -16,7 +16,7 @@ use Rattle.regions.proofs.Rises.{Rises, next, reach, edge, Canonical}
 use Rattle.regions.proofs.RoundTrip.{at-here, at-before, at-past, rises-below}
 use Rattle.regions.proofs.Trim.{rises-apart}
 use Rattle.regions.proofs.Prefix.{rest-rises, rest-at}
-use Rattle.regions.proofs.Free.{runs-at, free-is}
+use Rattle.regions.proofs.Free.{usable-is, untaken-absent, runs-at}
 use Rattle.sweep.specs.Steps.{OneRecord, Left, FirstRun}
 
 -- ---- one record of a shortest list, and the list behind it
@@ -43,10 +43,6 @@ splits xs w k r zs e = go (rw e at (rest-rises (take k xs) (drop k xs) whole))
 
 -- ---- what is free
 
-usable-is : (v : State) (t : Tag) → usable v ≡ Present t → v ≡ Present t
-unfolding freeMemory
-usable-is v t e = free-is (λ b. v) (λ b. Absent) 0 t e
-
 module _ (ms ts : List Region) (w : Canonical top ms) where
   abbrev runs : List Region
   runs = freeRuns ms ts
@@ -56,11 +52,7 @@ module _ (ms ts : List Region) (w : Canonical top ms) where
   free-at b = runs-at ms ts w b
 
   not-memory : (b : ℕ) → usable (at ms b) ≡ Absent → at runs b ≡ Absent
-  not-memory b e = free-at b ∙ ap (λ (v : State). untaken v (at ts b)) e ∙ go (at ts b)
-    where
-      go : (v : State) → untaken Absent v ≡ Absent
-      go Absent = refl
-      go (Present t) = refl
+  not-memory b e = free-at b ∙ ap (λ (v : State). untaken v (at ts b)) e ∙ untaken-absent (at ts b)
 
   pub is-taken : (b : ℕ) (t : Tag) → at ts b ≡ Present t → at runs b ≡ Absent
   is-taken b t e = free-at b ∙ ap (untaken (usable (at ms b))) e
@@ -84,9 +76,9 @@ module _ (ms ts : List Region) (w : Canonical top ms) where
 
     module _ (h : hi ≤ low) where
       -- and none left
-      pub none-left : drop i ms ≡ [] → (b : ℕ) → low ≤ b → at runs b ≡ Absent
+      pub nothing-left : drop i ms ≡ [] → (b : ℕ) → low ≤ b → at runs b ≡ Absent
       unfolding at
-      none-left e b l = not-memory b (s .memory b l (omega arith) ∙ ap (λ (xs : List Region). usable (at xs b)) e)
+      nothing-left e b l = not-memory b (s .memory b l (omega arith) ∙ ap (λ (xs : List Region). usable (at xs b)) e)
 
       module _ (r : Region) (e : drop i ms ≡ r ∷ drop (i + 1) ms) where
         abbrev split : Splits ms i r (drop (i + 1) ms)
@@ -163,9 +155,11 @@ module _ (ms ts : List Region) (w : Canonical top ms) where
               some = h;
               from = k;
               before = f;
-              all = rest-free;
-              stops = λ e. own .stops (free-usable hi (own .tag) e);
-              begins = λ b y e. begun b y (own .tag) (rest-free low (omega arith) h) e;
+              run = record {
+                all = rest-free;
+                stops = λ e. own .stops (free-usable hi (own .tag) e);
+                begins = λ b y e. begun b y (own .tag) (rest-free low (omega arith) h) e;
+              };
             }
 
         pub rest-left : Left ms ts hi hi i j
@@ -209,9 +203,11 @@ module _ (ms ts : List Region) (w : Canonical top ms) where
               some = l;
               from = k;
               before = f;
-              all = gap-free;
-              stops = λ x. let d = sym (taken-bare (v .base .0) (omega arith) (omega arith) (cut .some)) ∙ x in absurd (zero-not-one cc);
-              begins = λ b y x. begun b y (own .tag) (gap-free low (omega arith) l) x;
+              run = record {
+                all = gap-free;
+                stops = λ x. let d = sym (taken-bare (v .base .0) (omega arith) (omega arith) (cut .some)) ∙ x in absurd (zero-not-one cc);
+                begins = λ b y x. begun b y (own .tag) (gap-free low (omega arith) l) x;
+              };
             }
           where
             gap-free : (b : ℕ) → low ≤ b → b < v .base .0 → at runs b ≡ Present (own .tag)

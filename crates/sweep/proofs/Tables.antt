@@ -1,7 +1,7 @@
 -- A sweep over two tables' bytes: where it begins, and what each record read makes of it. Assumes nothing.
 use Prim.Native.Nat.{ℕ, zero, suc, _+_, _-_, _*_, _/_, _%_, _≤_, _<_, max}
 use mathlib.Core.Path.{_≡_, refl, sym, ap, _∙_}
-use mathlib.Core.List.{List, [], _∷_}
+use mathlib.Core.List.{List, _∷_}
 use mathlib.Core.Logic.{_⊎_, inl, inr}
 use native.Mathlib.Omega.{arith}
 use lib.ListN.{drop}
@@ -9,74 +9,60 @@ use borrow.Author.Tests.{eq-eqb, ne-eqb, le-leb, lt-leb}
 use Rattle.address.specs.declared.Address.{Address}
 use Rattle.address.proofs.Tests.{le-or-lt, zero-not-one}
 use Rattle.regions.specs.declared.Kind.the-variants.{Memory, Taken}
-use Rattle.regions.specs.declared.Tag.{Tag}
 use Rattle.regions.specs.declared.Region.{Region}
 use Rattle.regions.specs.declared.State.the-variants.{Absent, Present}
 use Rattle.regions.specs.Meaning.{end, at, top, top-is}
 use Rattle.regions.specs.Changes.{has}
 use Rattle.regions.specs.Free.{usable, freeRuns}
 use Rattle.regions.specs.Bytes.{readRegion, readRegions}
-use Rattle.regions.proofs.Rises.{Canonical, rises-Rises}
+use Rattle.regions.specs.Steps.{Parted}
+use Rattle.regions.proofs.Rises.{Canonical}
 use Rattle.regions.proofs.RoundTrip.{at-here, at-before, at-past, rises-end, rises-below}
 use Rattle.regions.proofs.Trim.{rises-apart}
 use Rattle.regions.proofs.Free.{free-memory}
 use Rattle.regions.proofs.Good.{good-rises}
-use Rattle.regions.proofs.Records.{read-regions-rest, read-regions-end}
 use Rattle.records.specs.Steps.{Table, endingBy}
-use Rattle.records.proofs.Placing.{drop-read, ending-above, place-le}
+use Rattle.records.proofs.Placing.{ending-above, place-le}
+use Rattle.records.proofs.Parts.{table-rises, none-left, rest-begins, ends-by-top}
 use Rattle.records.proofs.Tables.{good-table}
 use Rattle.runs.specs.declared.Bounds.{Bounds}
-use Rattle.runs.specs.Steps.{boundsOf, boundsLow}
+use Rattle.runs.specs.Steps.{boundsOf, boundsLow, boundsHigh}
 use Rattle.sweep.specs.declared.Sweep.{Sweep}
 use Rattle.sweep.specs.declared.Sweeping.the-variants.{Run}
-use Rattle.sweep.specs.Steps.{Tables, lastEnd, Left, Ahead, Advanced}
-use Rattle.sweep.proofs.Ahead.{Splits, splits, is-taken, none-left, record-skipped, record-bare, record-taken, rest-run, rest-left, taken-left, gap-run, gap-after, gap-none}
+use Rattle.sweep.specs.Steps.{Tables, Left, Ahead, Advanced}
+use Rattle.sweep.proofs.Ahead.{Splits, splits, is-taken, nothing-left, record-skipped, record-bare, record-taken, rest-run, rest-left, taken-left, gap-run, gap-after, gap-none}
 
 -- ---- records of a table
 
-module _ (n : ℕ) (l : List ℕ) (i : ℕ) where
-  drop-one : i < n → drop i (readRegions n l) ≡ readRegion (drop (24 * i) l) ∷ drop (i + 1) (readRegions n l)
-  drop-one h =
-      drop-read i n l (omega arith) ∙ read-regions-rest i n l h
-      ∙ ap (λ (xs : List Region). readRegion (drop (24 * i) l) ∷ xs) (sym (drop-read (i + 1) n l (omega arith)))
-
-  drop-all : n ≤ i → i ≤ n → drop i (readRegions n l) ≡ []
-  drop-all h k = drop-read i n l k ∙ read-regions-end i n (drop (24 * i) l) h
-
-  -- a record ends by the top
-  record-end : Canonical top (readRegions n l) → i < n → end (readRegion (drop (24 * i) l)) ≤ top
-  record-end w h = rises-end (splits (readRegions n l) w i (readRegion (drop (24 * i) l)) (drop (i + 1) (readRegions n l)) (drop-one h) .rest)
+-- record i, and those behind it
+drop-one : (l : List ℕ) (n i : ℕ) → Table l n → i < n → drop i (readRegions n l) ≡ readRegion (drop (24 * i) l) ∷ drop (i + 1) (readRegions n l)
+drop-one l n i w h = rest-begins l n i w (omega arith) h (readRegion (drop (24 * i) l)) refl
 
 -- ---- where the record before a place ends
 
-table-rises : (t : List ℕ) (n : ℕ) → Table t n → Canonical top (readRegions n t)
-table-rises t n w = rises-Rises 0 Absent top (readRegions n t) (w .rising)
+abbrev lastEnd : List ℕ → ℕ → ℕ
+lastEnd t i = boundsHigh t i .end .0
 
-module _ (t : List ℕ) (n i : ℕ) where
-  pub last-none : i ≡ 0 → 0 ≡ lastEnd i t
-  last-none h = rw (eq-eqb i 0 h)
-
-  pub last-fits : Table t n → i ≤ n → (i ≡ 0 → ⊥) → (r : Region) → r ≡ readRegion (drop (24 * (i - 1)) t) → end r < 18446744073709551616
-  last-fits w k h r e = rw e (omega (arith, record-end n t (i - 1) (table-rises t n w) (omega arith), top-is))
-
-  pub last-some : (i ≡ 0 → ⊥) → (r : Region) → r ≡ readRegion (drop (24 * (i - 1)) t) → (a : Address) → a .0 ≡ end r → a .0 ≡ lastEnd i t
-  last-some h r e a f = rw (ne-eqb i 0 h) (f ∙ ap end e)
+last-is : (t : List ℕ) (k : ℕ) → lastEnd t (suc k) ≡ end (readRegion (drop (24 * k) t))
+last-is t k =
+    let m : suc k - 1 ≡ k = omega arith in
+    let z : suc k ≡ 0 → ⊥ = λ e. omega arith in
+    let h : boundsHigh t (suc k) ≡ boundsOf (readRegion (drop (24 * k) t)) = rw (ne-eqb (suc k) 0 z, m) in
+    ap (λ (b : Bounds). b .end .0) h
 
 -- from there on the records from the place on say all
 record Passed (xs : List Region) (i a : ℕ) : Type 0 where
   below : a ≤ top
   from : (b : ℕ) → a ≤ b → at xs b ≡ at (drop i xs) b
   there : (b : ℕ) → suc b ≡ a → at xs b ≡ Absent → ⊥
-  parted : (b : ℕ) (t : Tag) → suc b ≡ a → at xs b ≡ Present t → at xs a ≡ Present t → ⊥
+  parted : Parted xs a
 
-passed : (t : List ℕ) (n i : ℕ) → Canonical top (readRegions n t) → i ≤ n → Passed (readRegions n t) i (lastEnd i t)
+passed : (t : List ℕ) (n i : ℕ) → Table t n → i ≤ n → Passed (readRegions n t) i (lastEnd t i)
 passed t n zero w h =
     record { below = omega arith; from = λ b l. refl; there = λ b y. absurd (omega arith); parted = λ b u y. absurd (omega arith) }
 passed t n (suc k) w h =
-    let m : suc k - 1 ≡ k = omega arith in
     let o : k + 1 ≡ suc k = omega arith in
-    let z : suc k ≡ 0 → ⊥ = λ e. omega arith in
-    rw (ne-eqb (suc k) 0 z, m) (go (splits xs w k r (drop (suc k) xs) (rw o at (drop-one n t k (omega arith)))))
+    rw (last-is t k) (go (splits xs (table-rises t n w) k r (drop (suc k) xs) (rw o at (drop-one t n k w (omega arith)))))
   where
     xs : List Region
     xs = readRegions n t
@@ -97,12 +83,10 @@ passed t n (suc k) w h =
         }
 
 -- and it ends at or below the address whose place it is
-last-low : (t : List ℕ) (n a i : ℕ) → i ≡ endingBy a (readRegions n t) → lastEnd i t ≤ a
+last-low : (t : List ℕ) (n a i : ℕ) → i ≡ endingBy a (readRegions n t) → lastEnd t i ≤ a
 last-low t n a zero e = omega arith
 last-low t n a (suc k) e =
-    let m : suc k - 1 ≡ k = omega arith in
-    let z : suc k ≡ 0 → ⊥ = λ e. omega arith in
-    rw (ne-eqb (suc k) 0 z, m) (go (le-or-lt (end (readRegion (drop (24 * k) t))) a))
+    rw (last-is t k) (go (le-or-lt (end (readRegion (drop (24 * k) t))) a))
   where
     go : (end (readRegion (drop (24 * k) t)) ≤ a) ⊎ (a < end (readRegion (drop (24 * k) t))) → end (readRegion (drop (24 * k) t)) ≤ a
     go (inl l) = l
@@ -133,7 +117,7 @@ module _ (memory : List ℕ) (mcount : ℕ) (taken : List ℕ) (tcount : ℕ) wh
     taken-rises : Canonical top ts
     taken-rises = good-rises Taken ts (p .good-taken)
 
-    first-edge : (i j x y : ℕ) → Passed ms i x → Passed ts j y → (b : ℕ) (t : Tag) → suc b ≡ max x y → at runs b ≡ Present t → at runs (max x y) ≡ Present t → ⊥
+    first-edge : (i j x y : ℕ) → Passed ms i x → Passed ts j y → Parted runs (max x y)
     first-edge i j x y m u b t e f g = go (le-or-lt x y)
       where
         taken-there : suc b ≡ y → (v : _) → at ts b ≡ v → ⊥
@@ -146,25 +130,25 @@ module _ (memory : List ℕ) (mcount : ℕ) (taken : List ℕ) (tcount : ℕ) wh
             let z : max x y ≡ x = omega arith in
             m .parted b t (e ∙ z) (free-memory ms ts memory-rises b t f) (free-memory ms ts memory-rises x t (rw z at g))
 
-    module _ (a : Address) (i j : ℕ) (d : i ≡ endingBy (a .0) ms) (e : j ≡ endingBy (a .0) ts) (x y : Address) (f : x .0 ≡ lastEnd i memory) (g : y .0 ≡ lastEnd j taken)
-        (low : Address) (h : low .0 ≡ max (x .0) (y .0)) where
+    module _ (a : Address) (i j : ℕ) (d : i ≡ endingBy (a .0) ms) (e : j ≡ endingBy (a .0) ts) (x y : Bounds) (f : x ≡ boundsHigh memory i) (g : y ≡ boundsHigh taken j)
+        (low : Address) (h : low .0 ≡ max (x .end .0) (y .end .0)) where
       pub begins-low : low .0 ≤ a .0
-      begins-low = omega (arith, last-low memory mcount (a .0) i d, last-low taken tcount (a .0) j e)
+      begins-low = rw (h, f, g) (omega (arith, last-low memory mcount (a .0) i d, last-low taken tcount (a .0) j e))
 
       pub begins-ahead : (next : Bounds) → next ≡ boundsLow tcount taken j
           → Ahead memory mcount taken tcount (record { low = low; top = record { 0 = 0 }; memory = i; taken = j; next = next })
       begins-ahead next n =
           let k = place-le memory mcount (a .0) i d in
           let l = place-le taken tcount (a .0) j e in
-          let m : Passed ms i (x .0) = rw f (passed memory mcount i memory-rises k) in
-          let u : Passed ts j (y .0) = rw g (passed taken tcount j taken-rises l) in
+          let m : Passed ms i (x .end .0) = rw f (passed memory mcount i (memory-table p) k) in
+          let u : Passed ts j (y .end .0) = rw g (passed taken tcount j (taken-table p) l) in
           record {
             few = k;
             places = l;
             small = omega (arith, m .below, u .below);
             next = n;
             left = record {
-              edge = rw h (first-edge i j (x .0) (y .0) m u);
+              edge = rw h (first-edge i j (x .end .0) (y .end .0) m u);
               taken = λ b z. u .from b (omega arith);
               memory = λ b z v. ap usable (m .from b (omega arith));
               hand = λ z. absurd (omega arith);
@@ -201,12 +185,12 @@ module _ (memory : List ℕ) (mcount : ℕ) (taken : List ℕ) (tcount : ℕ) wh
       sweep-over k b l = go (le-or-lt (low .0) b)
         where
           go : (low .0 ≤ b) ⊎ (b < low .0) → at runs b ≡ Absent
-          go (inl z) = none-left ms ts (memory-rises (s .tables)) left h (drop-all mcount memory i k (s .ahead .few)) b z
+          go (inl z) = nothing-left ms ts (memory-rises (s .tables)) left h (none-left memory mcount i (memory-table (s .tables)) (s .ahead .few) k) b z
           go (inr z) = s .bare b l z
 
       module _ (k : i < mcount) {r : Region} (e : r ≡ readRegion (drop (24 * i) memory)) where
         here : drop i ms ≡ r ∷ drop (i + 1) ms
-        here = rw e (drop-one mcount memory i k)
+        here = rest-begins memory mcount i (memory-table (s .tables)) (s .ahead .few) k r e
 
         -- a no-map record
         pub sweep-skip : (r .tag .flags / 4 % 2 ≡ 0 → ⊥) → Sweeps c low hi (i + 1) j next
@@ -232,7 +216,7 @@ module _ (memory : List ℕ) (mcount : ℕ) (taken : List ℕ) (tcount : ℕ) wh
             let m : r .tag .flags / 4 % 2 ≡ 1 → ⊥ = λ x. omega arith in
             let u : usable (Present (r .tag)) ≡ Present (r .tag) = rw (ne-eqb (r .tag .flags / 4 % 2) 1 m) in
             let v : Left ms ts (low′ .0) (hi′ .0) (i + 1) j = rw (f, g) (record-taken ms ts (memory-rises (s .tables)) left h r here u) in
-            let o : end r ≤ top = rw e (record-end mcount memory i (memory-rises (s .tables)) k) in
+            let o = ends-by-top memory mcount i (memory-table (s .tables)) (s .ahead .few) k r e in
             let d = record-bare ms ts (memory-rises (s .tables)) left h r here in
             record {
               tables = s .tables;
@@ -245,10 +229,10 @@ module _ (memory : List ℕ) (mcount : ℕ) (taken : List ℕ) (tcount : ℕ) wh
       -- no taken record begins in what is at hand
       clear : hi .0 ≤ next .base .0 → (tcount ≤ j) ⊎ (j < tcount) → (b : ℕ) → b < hi .0 → at (drop j ts) b ≡ Absent
       unfolding at
-      clear k (inl o) b l = ap (λ (xs : List Region). at xs b) (drop-all tcount taken j o (s .ahead .places))
+      clear k (inl o) b l = ap (λ (xs : List Region). at xs b) (none-left taken tcount j (taken-table (s .tables)) (s .ahead .places) o)
       clear k (inr o) b l =
           let v : Region = readRegion (drop (24 * j) taken) in
-          let e = drop-one tcount taken j o in
+          let e = drop-one taken tcount j (taken-table (s .tables)) o in
           let d = splits ts (taken-rises (s .tables)) j v (drop (j + 1) ts) e in
           let n : next ≡ boundsOf v = s .ahead .next ∙ rw (lt-leb tcount j o) in
           let m : next .base .0 ≡ v .base .0 = ap (λ (x : Bounds). x .base .0) n in
@@ -291,13 +275,13 @@ module _ (memory : List ℕ) (mcount : ℕ) (taken : List ℕ) (tcount : ℕ) wh
         end-is = ap (λ (x : Bounds). x .end .0) bounds
 
         split : drop j ts ≡ v ∷ drop (j + 1) ts
-        split = drop-one tcount taken j one-more
+        split = drop-one taken tcount j (taken-table (s .tables)) one-more
 
         module _ {low′ : Address} {next′ : Bounds} (f : low′ .0 ≡ max (low .0) (next .end .0)) (g : next′ ≡ boundsLow tcount taken (j + 1)) where
           behind : Ahead memory mcount taken tcount (record { low = low′; top = hi; memory = i; taken = j + 1; next = next′ })
           behind =
               let e : low′ .0 ≡ max (low .0) (end v) = rw (← end-is) f in
-              let d = record-end tcount taken j (taken-rises (s .tables)) one-more in
+              let d = ends-by-top taken tcount j (taken-table (s .tables)) (s .ahead .places) one-more v refl in
               record {
                 few = s .ahead .few;
                 places = omega (arith, one-more);

@@ -1,18 +1,18 @@
 -- What a sweep over the free runs of two tables has come to, and what it comes to next. Only inner contracts and proofs cite this module. Assumes nothing.
-use Prim.Native.Nat.{ℕ, suc, _-_, _*_, _≤_, _<_}
+use Prim.Native.Nat.{ℕ, _-_, _*_, _≤_, _<_}
 use mathlib.Core.Path.{_≡_}
-use mathlib.Core.Bool.{true, cond}
+use mathlib.Core.Bool.{true}
 use mathlib.Core.List.{List}
-use lib.Dec.{eqb}
 use lib.ListN.{length, drop}
 use Rattle.regions.specs.declared.Tag.{Tag}
 use Rattle.regions.specs.declared.Region.{Region}
 use Rattle.regions.specs.declared.State.the-variants.{Absent, Present}
 use Rattle.regions.specs.declared.Kind.the-variants.{Memory, Taken}
-use Rattle.regions.specs.Meaning.{end, at, top}
+use Rattle.regions.specs.Meaning.{at, top}
 use Rattle.regions.specs.Lists.{goodList}
 use Rattle.regions.specs.Free.{usable, freeRuns}
-use Rattle.regions.specs.Bytes.{readRegion, readRegions}
+use Rattle.regions.specs.Bytes.{readRegions}
+use Rattle.regions.specs.Steps.{Longest, Parted}
 use Rattle.runs.specs.Steps.{boundsLow}
 use Rattle.sweep.specs.declared.Sweep.{Sweep}
 use Rattle.sweep.specs.declared.Swept.{Swept}
@@ -30,10 +30,6 @@ pub record Tables (memory : List ℕ) (mcount : ℕ) (taken : List ℕ) (tcount 
 abbrev pub runsIn : List ℕ → ℕ → List ℕ → ℕ → List Region
 runsIn memory mcount taken tcount = freeRuns (readRegions mcount memory) (readRegions tcount taken)
 
--- where the record before i ends; 0, if there is none
-abbrev pub lastEnd : ℕ → List ℕ → ℕ
-lastEnd i l = cond (eqb i 0) 0 (end (readRegion (drop (24 * (i - 1)) l)))
-
 -- from low to hi memory is of one tag, not no-map, and at hi it is not of that tag
 pub record OneRecord (ms : List Region) (low hi : ℕ) : Type 0 where
   pub tag : Tag
@@ -43,7 +39,7 @@ pub record OneRecord (ms : List Region) (low hi : ℕ) : Type 0 where
 -- no run goes across low; from there on the taken records from j on say what is taken, and the record at hand, up to hi, and behind it the records from i on say
 -- what memory there is
 pub record Left (ms ts : List Region) (low hi i j : ℕ) : Type 0 where
-  pub edge : (b : ℕ) (t : Tag) → suc b ≡ low → at (freeRuns ms ts) b ≡ Present t → at (freeRuns ms ts) low ≡ Present t → ⊥
+  pub edge : Parted (freeRuns ms ts) low
   pub taken : (b : ℕ) → low ≤ b → at ts b ≡ at (drop j ts) b
   pub memory : (b : ℕ) → low ≤ b → hi ≤ b → usable (at ms b) ≡ usable (at (drop i ms) b)
   pub hand : low < hi → OneRecord ms low hi
@@ -62,9 +58,7 @@ pub record FirstRun (runs : List Region) (c lo hi : ℕ) : Type 0 where
   pub some : lo < hi
   pub from : c ≤ lo
   pub before : (b : ℕ) → c ≤ b → b < lo → at runs b ≡ Absent
-  pub all : (b : ℕ) → lo ≤ b → b < hi → at runs b ≡ Present tag
-  pub stops : at runs hi ≡ Present tag → ⊥
-  pub begins : (b : ℕ) → suc b ≡ lo → at runs b ≡ Present tag → ⊥
+  pub run : Longest runs tag lo hi
 
 -- a run that a sweep from c on comes to, with nothing free between it and the sweep behind it
 pub record Reached (runs : List Region) (c : ℕ) (x : Swept) : Type 0 where

@@ -3,12 +3,12 @@ use address::Address;
 use records::table::place;
 use regions::bytes::get_region;
 use runs::Bounds;
+use runs::bounds_high;
 use runs::bounds_low;
 use runs::past;
 ghost use mathlib.Core.Path.{_≡_};
 ghost use Prim.Native.Nat.{_≤_};
-ghost use Rattle.records.specs.Steps.{Table};
-ghost use Rattle.sweep.specs.Steps.{Tables, lastEnd, Ahead, Advanced};
+ghost use Rattle.sweep.specs.Steps.{Tables, Ahead, Advanced};
 
 // Where a sweep stands: what lies below `low` is behind it, and no run goes across. What is left of the memory record at hand ends at `top`; there is none
 // at hand where `top` is not above `low`. Memory record `memory` is the next to be read, and `next` is taken record `taken`.
@@ -33,17 +33,6 @@ pub enum Sweeping {
     Over,
 }
 
-// Where the record before `i` ends; 0, if there is none.
-fn last_end(t: &[u8], count: usize, i: usize) -> Address
-    requires { ⌜ Table (now t) count × (i ≤ count) ⌝ }
-    ensures { λ r. ⌜ r .0 ≡ lastEnd i (now (t .entry)) ⌝ }
-{
-    if i == 0 {
-        return Address(0);
-    }
-    past(get_region(t, 24 * (i - 1)))
-}
-
 // A sweep from `a` on: from where the last record that ends at or below `a` does.
 pub fn begin(memory: &[u8], mcount: usize, taken: &[u8], tcount: usize, a: Address) -> Sweep
     requires { ⌜ Tables (now memory) mcount (now taken) tcount ⌝ }
@@ -51,8 +40,8 @@ pub fn begin(memory: &[u8], mcount: usize, taken: &[u8], tcount: usize, a: Addre
 {
     let i = place(memory, mcount, a);
     let j = place(taken, tcount, a);
-    let from = last_end(memory, mcount, i);
-    let until = last_end(taken, tcount, j);
+    let from = bounds_high(memory, mcount, i).end;
+    let until = bounds_high(taken, tcount, j).end;
     let next = bounds_low(taken, tcount, j);
     Sweep {
         low: from.max(until),

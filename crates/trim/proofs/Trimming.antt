@@ -24,7 +24,7 @@ use Rattle.regions.specs.Trim.{roundOne, roundEach}
 use Rattle.regions.specs.Lists.{rises}
 use Rattle.regions.proofs.Trim.{round-rises}
 use Rattle.regions.specs.Bytes.{readRegion, regionBytes, readRegions, tableBytes}
-use Rattle.regions.proofs.Rises.{Rises, next, rises-Rises, Rises-rises}
+use Rattle.regions.proofs.Rises.{Rises, next, Rises-rises}
 use Rattle.regions.proofs.RoundTrip.{rises-end}
 use Rattle.regions.proofs.Records.{Fit, region-bytes-length, put-here, put-before, read-regions-snoc, read-regions-rest, read-regions-end, read-regions-length}
 use Rattle.trim.specs.declared.Rounded.{Rounded}
@@ -35,6 +35,7 @@ use Rattle.records.specs.Steps.{Table, Whole, put}
 use Rattle.trim.specs.Steps.{Trimmed, leftOf}
 use Rattle.moves.proofs.Moving.{drop-sets}
 use Rattle.records.proofs.Placing.{take-read}
+use Rattle.records.proofs.Parts.{table-rises}
 
 -- ---- no record of a shortest list ends above the top
 
@@ -47,7 +48,7 @@ high-at (suc i) (suc n) l c v (next {r = r} f w) h =
     rw (← e, ← drop-drop (24 * i) 24 l) (high-at i n (drop 24 l) (end r) (Present (r .tag)) w (le-of-suc-le-suc h))
 
 pub record-high : (l : List ℕ) (n i : ℕ) (r : Region) → Table l n → i < n → r ≡ readRegion (drop (24 * i) l) → end r ≤ top
-record-high l n i r t h e = rw e (high-at i n l 0 Absent (rises-Rises 0 Absent top (readRegions n l) (t .rising)) h)
+record-high l n i r t h e = rw e (high-at i n l 0 Absent (table-rises l n t) h)
 
 -- ---- one record
 
@@ -139,7 +140,7 @@ over-end t₀ t n i a b d = let e : i ≡ n = omega arith in rw e at d
 module _ (t : List ℕ) (y : Tally) (w : Whole t y) (k : ℕ) (pow : powerOfTwo k ≡ true) (u : List ℕ) (n : ℕ) (h : n ≤ y .count) (p : readRegions n u ≡ roundEach k (readRegions (y .count) t))
     (q : drop (24 * y .count) u ≡ drop (24 * y .count) t) where
   pub left-rises : rises 0 Absent top (readRegions n u) ≡ true
-  left-rises = rw p (Rises-rises (round-rises k (power-some k pow) (rises-Rises 0 Absent top (readRegions (y .count) t) (w .table .rising))))
+  left-rises = rw p (Rises-rises (round-rises k (power-some k pow) (table-rises t (y .count) (w .table))))
 
   pub left-zeros : allZeros (drop (24 * y .count) u) ≡ true
   left-zeros = rw q (w .rest)

@@ -2,7 +2,7 @@
 use Rattle.regions.specs.Bytes.{readRegions}
 use Rattle.runs.specs.Steps.{firstIn}
 use Rattle.fits.specs.declared.Way.the-variants.{Down}
-use Rattle.runs.proofs.Steps.{Walking, Gap, remain, begin-down, past-fits, index-below, enter, covered, room, some-taken, less, onward, leave, skip, over, in-gap, in-last}
+use Rattle.runs.proofs.Steps.{Walking, Gap, remain, memory-table, taken-table, begin-down, past-fits, index-below, enter, covered, room, less, onward, leave, skip, over, in-gap, in-last}
 use borrow.Author.Needs.{needs}
 use Rattle.runs.proofs.walk_high.Statement.{statement}
 use Rattle.runs.proofs.walk_high.Tie as tie
@@ -24,7 +24,7 @@ abbrev μ-records : tie.MeasureT-records
     remain Down mcount i
 
 bounds-high-requires : tie.Need-bounds-high-requires Inv-loop μ-loop Inv-records μ-records
-bounds-high-requires c κs = search needs
+bounds-high-requires c κs = (search (taken-table, needs), search needs)
 
 records-holds : tie.Need-records-holds Inv-loop μ-loop Inv-records μ-records
 records-holds c = search (begin-down, needs)
@@ -45,7 +45,7 @@ max-requires : tie.Need-max-requires Inv-loop μ-loop Inv-records μ-records
 max-requires c κs = search needs
 
 past-requires : tie.Need-past-requires Inv-loop μ-loop Inv-records μ-records
-past-requires c κs = search (past-fits, index-below Down, needs)
+past-requires c κs = search (past-fits, memory-table, index-below Down, needs)
 
 min-requires : tie.Need-min-requires Inv-loop μ-loop Inv-records μ-records
 min-requires c κs = search needs
@@ -83,7 +83,7 @@ sub-j : tie.Need-sub-j Inv-loop μ-loop Inv-records μ-records
 sub-j c = search (room Down, needs)
 
 bounds-high-requires-2 : tie.Need-bounds-high-requires-2 Inv-loop μ-loop Inv-records μ-records
-bounds-high-requires-2 c κs = search (some-taken, needs)
+bounds-high-requires-2 c κs = (search (taken-table, needs), search needs)
 
 loop-less : tie.Need-loop-less Inv-loop μ-loop Inv-records μ-records
 loop-less c = search (less Down, needs)

@@ -33,7 +33,7 @@ before-requires : tie.Need-before-requires Inv-loop μ-loop Inv-records μ-recor
 before-requires c κs = search needs
 
 bounds-low-requires : tie.Need-bounds-low-requires Inv-loop μ-loop Inv-records μ-records
-bounds-low-requires c κs = search needs
+bounds-low-requires c κs = search (taken-table, needs)
 
 records-holds : tie.Need-records-holds Inv-loop μ-loop Inv-records μ-records
 records-holds c = search (begin-up, needs)
@@ -51,7 +51,7 @@ serving-requires : tie.Need-serving-requires Inv-loop μ-loop Inv-records μ-rec
 serving-requires c κs = search needs
 
 past-requires : tie.Need-past-requires Inv-loop μ-loop Inv-records μ-records
-past-requires c κs = search (past-fits, needs)
+past-requires c κs = search (past-fits, memory-table, needs)
 
 min-requires : tie.Need-min-requires Inv-loop μ-loop Inv-records μ-records
 min-requires c κs = search needs
@@ -92,7 +92,7 @@ add-j : tie.Need-add-j Inv-loop μ-loop Inv-records μ-records
 add-j c = search (room Up, needs)
 
 bounds-low-requires-2 : tie.Need-bounds-low-requires-2 Inv-loop μ-loop Inv-records μ-records
-bounds-low-requires-2 c κs = search needs
+bounds-low-requires-2 c κs = search (taken-table, needs)
 
 loop-less : tie.Need-loop-less Inv-loop μ-loop Inv-records μ-records
 loop-less c = search (less Up, needs)

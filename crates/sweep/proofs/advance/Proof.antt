@@ -1,7 +1,7 @@
 -- `sweep::advance` meets its contract. The invariant: nothing is free up to where the sweep has come to, and what it holds says all that lies ahead.
 use Prim.Native.Nat.{_+_, _-_}
 use Rattle.runs.proofs.Steps.{past-fits}
-use Rattle.sweep.proofs.Tables.{Sweeps, sweep-start, sweep-over, sweep-skip, sweep-take, sweep-last, one-more, one-less, sweep-gap, sweep-none}
+use Rattle.sweep.proofs.Tables.{memory-table, taken-table, Sweeps, sweep-start, sweep-over, sweep-skip, sweep-take, sweep-last, one-more, one-less, sweep-gap, sweep-none}
 use borrow.Author.Needs.{needs}
 use Rattle.sweep.proofs.advance.Statement.{statement}
 use Rattle.sweep.proofs.advance.Tie as tie
@@ -28,7 +28,7 @@ add-i : tie.Need-add-i Inv-loop μ-loop
 add-i c = search needs
 
 past-requires : tie.Need-past-requires Inv-loop μ-loop
-past-requires c κs = search (past-fits, needs)
+past-requires c κs = search (past-fits, memory-table, needs)
 
 max-requires : tie.Need-max-requires Inv-loop μ-loop
 max-requires c κs = search needs
@@ -55,7 +55,7 @@ add-j : tie.Need-add-j Inv-loop μ-loop
 add-j c = search (one-more, needs)
 
 bounds-low-requires : tie.Need-bounds-low-requires Inv-loop μ-loop
-bounds-low-requires c κs = search needs
+bounds-low-requires c κs = search (taken-table, needs)
 
 returns-3 : tie.Need-returns-3 Inv-loop μ-loop
 returns-3 c = search (sweep-gap, needs)

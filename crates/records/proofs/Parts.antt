@@ -12,12 +12,16 @@ use Rattle.regions.proofs.Rises.{Rises, next, Canonical, reach, edge, rises-Ris
 use Rattle.regions.proofs.RoundTrip.{rises-end}
 use Rattle.regions.proofs.Prefix as prefix
 use Rattle.regions.proofs.Records.{read-regions-rest, read-regions-end}
 use Rattle.records.specs.Steps.{Table}
 use Rattle.records.proofs.Placing.{drop-read}
+
+-- they are a shortest list
+pub table-rises : (l : List ℕ) (n : ℕ) → Table l n → Canonical top (readRegions n l)
+table-rises l n w = rises-Rises 0 Absent top (readRegions n l) (w .rising)
 
 module _ (l : List ℕ) (n i : ℕ) (w : Table l n) (k : i ≤ n) where
   pub parts-rise : Canonical top (take i (readRegions n l) ++ drop i (readRegions n l))
-  parts-rise = rw (take-append-drop i (readRegions n l)) (rises-Rises 0 Absent top (readRegions n l) (w .rising))
+  parts-rise = rw (take-append-drop i (readRegions n l)) (table-rises l n w)
 
   pub none-left : n ≤ i → drop i (readRegions n l) ≡ []
   none-left h = drop-read i n l k ∙ read-regions-end i n (drop (24 * i) l) h

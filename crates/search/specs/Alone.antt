@@ -14,7 +14,7 @@ use Rattle.search.specs.Answers.{Answer, SameAnswer}
 
 -- ---- which blocks agree on a node
 
--- of state v, where it is of node n
+-- a state of node n with its tag; any other counts as absent
 abbrev pub ofNode : ℕ → State → State
 ofNode n Absent = Absent
 ofNode n (Present t) = cond (eqb (t .node) n) (Present t) Absent

@@ -68,6 +68,15 @@ def declared():
     return names, fields, answers
 
 
+def of_a_library(text, own):
+    """The names that a file has from modules outside the repository."""
+    found = set()
+    for module, items in re.findall(r"use\s+([\w.]+)\.\{([^}]*)\}", text):
+        if not (module.startswith("Rattle.") and module.split(".")[1] in own):
+            found |= set(re.findall(WORD, " ".join(i.split(" as ")[0] for i in items.split(","))))
+    return found
+
+
 def turned(text, table, fields, keep=frozenset(), proof=False):
     def one(m):
         word = m[0]
@@ -106,9 +115,9 @@ def alias(m, table):
     return a if a == b else m[0]
 
 
-def rt(text, table, fields):
+def rt(text, table, fields, keep=frozenset()):
     parts = re.split(r'("(?:[^"\\\n]|\\.)*"|//[^\n]*)', text)
-    return "".join(p if p.startswith('"') else comment(p, table) if p.startswith("//") else antt(p, table, fields, frozenset(), False) for p in parts)
+    return "".join(p if p.startswith('"') else comment(p, table) if p.startswith("//") else antt(p, table, fields, keep, False) for p in parts)
 
 
 def edit(text, table, fields):
@@ -142,10 +151,11 @@ def main(argv):
     if "--together" in argv:
         together(names, table)
         return
+    own = {p.split("/")[1] for p in glob.glob("crates/*")}
     for path in antt_files():
-        write(path, lambda t: antt(t, table, fields, answers.get(path, frozenset()), path.endswith("Proof.antt")))
+        write(path, lambda t: antt(t, table, fields, answers.get(path, frozenset()) | (of_a_library(t, own) - {w for w in names if path in names[w]}), path.endswith("Proof.antt")))
     for path in glob.glob("crates/*/src/**/*.rt", recursive=True):
-        write(path, lambda t: rt(t, table, fields))
+        write(path, lambda t: rt(t, table, fields, of_a_library(t, own)))
     for path in glob.glob("crates/*/must-fail/*.edit"):
         write(path, lambda t: edit(t, table, fields))
 

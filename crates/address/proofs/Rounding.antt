@@ -6,7 +6,7 @@ use mathlib.Core.Logic.{◌⊎◌, inl, inr}
 use native.Mathlib.Omega.{arith}
 use native.Mathlib.Nat.{mod-add-mod, mod_self, mod-le, mod-lt, mod-eq_of_lt, div-add-mod', mul-mod_left, mul-add-mod_self_right}
 use lib.Dec.{eqb}
-use borrow.Author.Tests.{eq-eqb, ne_eqb, eqb_true, eqb-false}
+use borrow.Author.Tests.{eq-eqb, ne_eqb, eqb-true, eqb-false}
 use Rattle.address.specs.Numbers.{up, down, power_of_two}
 use Rattle.address.proofs.Tests.{le_or_lt}
 use Rattle.address.proofs.Powers.{power_some}
@@ -37,7 +37,7 @@ module _ (x k : ℕ) (pos : 0 < k) where
   up_multiple = go (eqb (x % k) 0) refl
     where
       go : (b : Bool) → eqb (x % k) 0 ≡ b → cond b x (x + (k - x % k)) % k ≡ 0
-      go true e = eqb_true (x % k) 0 e
+      go true e = eqb-true (x % k) 0 e
       go false e =
           let h : x % k + (k - x % k) ≡ k = omega (arith, mod-lt x pos) in
           sym (mod-add-mod x k (k - x % k)) ∙ ap (λ (y : ℕ). y % k) h ∙ mod_self k

@@ -8,7 +8,7 @@ use native.Mathlib.Nat.{le_of_suc-le-suc, not-suc-le-zero}
 use lib.Dec.{eqb}
 use lib.ListN.{length, drop, length-drop, drop_of_length-le}
 use lib.Seq.{sets, sets-eq, drop-drop}
-use borrow.Author.Tests.{eq-eqb, ne_eqb, eqb_true, eqb-false}
+use borrow.Author.Tests.{eq-eqb, ne_eqb, eqb-true, eqb-false}
 use Rattle.address.proofs.Tests.{both, and}
 use Rattle.regions.specs.Bytes.{number}
 use Rattle.regions.proofs.Numbers.{Bytes, one, bytes_drop}
@@ -26,7 +26,7 @@ same_true [] (b ∷ y) e = let z : false ≡ true = e in cc
 same_true (a ∷ x) [] e = let z : false ≡ true = e in cc
 same_true (a ∷ x) (b ∷ y) e =
     let p = both (eqb a b) (same_bytes x y) e in
-    ap₂ (λ (c : ℕ) (l : List ℕ). c ∷ l) (eqb_true a b p.0) (same_true x y p.1)
+    ap₂ (λ (c : ℕ) (l : List ℕ). c ∷ l) (eqb-true a b p.0) (same_true x y p.1)
 
 -- two numbers of a byte and the rest are equal exactly when both parts are
 digits : (a b m n : ℕ) → a < 256 → b < 256 → eqb (a + 256 * m) (b + 256 * n) ≡ (eqb a b && eqb m n)
@@ -36,8 +36,8 @@ digits a b m n h k = go (eqb a b) refl
     go true e = rest (eqb m n) refl
       where
         rest : (u : Bool) → eqb m n ≡ u → eqb (a + 256 * m) (b + 256 * n) ≡ u
-        rest true f = eq-eqb (a + 256 * m) (b + 256 * n) (omega (arith, eqb_true a b e, eqb_true m n f))
-        rest false f = ne_eqb (a + 256 * m) (b + 256 * n) (λ z. eqb-false m n f (omega (arith, eqb_true a b e)))
+        rest true f = eq-eqb (a + 256 * m) (b + 256 * n) (omega (arith, eqb-true a b e, eqb-true m n f))
+        rest false f = ne_eqb (a + 256 * m) (b + 256 * n) (λ z. eqb-false m n f (omega (arith, eqb-true a b e)))
     go false e = ne_eqb (a + 256 * m) (b + 256 * n) (λ z. eqb-false a b e (omega arith))
 
 same_number : (k : ℕ) (x y : List ℕ) → Bytes x → Bytes y → k ≤ length x → k ≤ length y

@@ -9,7 +9,7 @@ use lib.Dec.{leb, eqb}
 use lib.ListN.{length, take, drop, take-append-drop, length-append}
 use Rattle.address.proofs.Tests.{le_or_lt, zero_not_one}
 use Rattle.regions.specs.declared.State.{State}
-use borrow.Author.Tests.{leb-true, leb-false, le-leb, eqb_true, eqb-false, not-true, not-false}
+use borrow.Author.Tests.{leb-true, leb-false, le-leb, eqb-true, eqb-false, not-true, not-false}
 use Rattle.address.specs.declared.Address.{Address}
 use Rattle.address.specs.declared.CheckedAddress.{CheckedAddress}
 use Rattle.address.specs.declared.CheckedAddress.TheVariants.{At, Outside}
@@ -324,7 +324,7 @@ filled_by_one t lo hi xs w l m v = rw e at (go (drop i xs) (rw (← e) at w) (va
             → length (shortest (after (change (Fill t)) lo hi (at (ys ++ (z ∷ zs)))) top) ≤ suc (length (ys ++ (z ∷ zs)))
         test u h true p true q =
             rw (
-              fill_meets t lo hi top ys zs z c l low (eqb_true z.base.0 hi p) (same_true z.tag t q),
+              fill_meets t lo hi top ys zs z c l low (eqb-true z.base.0 hi p) (same_true z.tag t q),
               length-append (join ys lo (hi - lo + z.size.0) t) zs,
               length-append ys (z ∷ zs),
             ) (omega (arith, grown (hi - lo + z.size.0) (omega arith)))

@@ -1,14 +1,14 @@
 -- Which edition 1 blocks are good by document 01; such a block, converted, is a good block that says the same. Assumes nothing.
 use Prim.Native.Nat.{ℕ, ◌+◌, ◌*◌, ◌-◌, ◌≤◌, ◌<◌}
 use mathlib.Core.Path.{◌≡◌, sym, ap, ◌∙◌}
-use mathlib.Core.Bool.{Bool, true, false, not, ◌&&◌, and_true, and_false}
+use mathlib.Core.Bool.{Bool, true, false, not, ◌&&◌, and-true, and-false}
 use mathlib.Core.List.{List, ◌++◌, append_assoc}
 use native.Mathlib.Omega.{arith}
 use native.Mathlib.Nat.{sub-zero}
 use lib.Dec.{eqb}
 use lib.ListN.{length, take, drop, replicate, length-append, length-drop}
 use lib.Seq.{sets, take_all, take_at, drop-append-le}
-use borrow.Author.Tests.{eq-eqb, eqb_true, ne_eqb, le-leb, not-true, not-false}
+use borrow.Author.Tests.{eq-eqb, eqb-true, ne_eqb, le-leb, not-true, not-false}
 use Rattle.address.proofs.Tests.{no, both, and}
 use Rattle.regions.specs.declared.Kind.TheVariants.{Memory, Taken}
 use Rattle.regions.specs.declared.Region.{Region}
@@ -37,7 +37,7 @@ good_one_is old e = (both (good edition_one old) _ e).0
 -- it has no image
 one_no_image : (old : List ℕ) → good_one old ≡ true → (contents edition_one old).settings.image.0 ≡ 0
 unfolding good_one contents
-one_no_image old e = eqb_true (number 8 (drop 72 old)) 0 (both (flags_one (contents edition_one old).memory) _ (both (good edition_one old) _ e).1).1
+one_no_image old e = eqb-true (number 8 (drop 72 old)) 0 (both (flags_one (contents edition_one old).memory) _ (both (good edition_one old) _ e).1).1
 
 module _ (old : List ℕ) (g : good edition_one old ≡ true) where
   pub old_header : 80 ≤ length old
@@ -98,14 +98,14 @@ module _ (old : List ℕ) (l : Layout) (is : l ≡ edition_one) (g : Bool) (q : 
       unfolding good_one
       one_image n =
           let z : number 8 (drop 72 old) ≡ 0 → ⊥ = rw e at n in
-          rw (ne_eqb (number 8 (drop 72 old)) 0 z, edition_one) (sym (and_false (flags_one (contents edition_one old).memory)))
+          rw (ne_eqb (number 8 (drop 72 old)) 0 z, edition_one) (sym (and-false (flags_one (contents edition_one old).memory)))
 
       pub one_judged : h.settings.image.0 ≡ 0 → (f : Bool) → f ≡ flags_one (read_regions h.memory.count (take (3152 - 80) (drop 80 old))) → f ≡ good_one old
       unfolding good_one contents capacity offset
       one_judged n f d =
           let z : number 8 (drop 72 old) ≡ 0 = rw e at n in
           let k : f ≡ flags_one (read_regions (read_header old).memory.count (take (3152 - 80) (drop 80 old))) = rw e at d in
-          rw (eq-eqb (number 8 (drop 72 old)) 0 z, edition_one, and_true) k
+          rw (eq-eqb (number 8 (drop 72 old)) 0 z, edition_one, and-true) k
 
 -- ---- the same in more room
 
@@ -159,7 +159,7 @@ module _ (old b : List ℕ) (g : Bool) (q : g ≡ good_one old) where
 
     pub convert_length : (length b ≡ block_length current → ⊥) → outcome 1 b ≡ convert old b
     unfolding convert
-    convert_length n = rw (ne_eqb (length b) (block_length current) n, and_false)
+    convert_length n = rw (ne_eqb (length b) (block_length current) n, and-false)
 
     pub convert_done : Bytes old → length b ≡ block_length current → (x : List ℕ) → x ≡ take (block_length edition_one) old ++ drop (block_length edition_one) b
         → (y : List ℕ) → y ≡ take (block_length edition_one) x ++ replicate (length x - block_length edition_one) 0 → (h : Header) → h ≡ read_header old
@@ -174,7 +174,7 @@ converts : (old b : List ℕ) → Converts old b
 unfolding convert
 converts old b =
     record {
-      refused = λ d. rw (no (good_one old && eqb (length b) (block_length current)) (λ e. let p = both (good_one old) _ e in d p.0 (eqb_true (length b) _ p.1)));
+      refused = λ d. rw (no (good_one old && eqb (length b) (block_length current)) (λ e. let p = both (good_one old) _ e in d p.0 (eqb-true (length b) _ p.1)));
       done = given;
       is_good = λ e. let p = passed e in rw (p.0, p.1) (good_spelled_block current small_current (contents edition_one old) (spellable_now old (good_one_is old p.0)));
       says = same;

@@ -6,7 +6,7 @@ use mathlib.Core.List.{List}
 use mathlib.Core.Option.{Option, none, some}
 use native.Mathlib.Omega.{arith}
 use lib.Dec.{leb, eqb}
-use borrow.Author.Tests.{leb-true, le-leb, eq-eqb, eqb_true}
+use borrow.Author.Tests.{leb-true, le-leb, eq-eqb, eqb-true}
 use Rattle.address.proofs.Tests.{both, and, no, iff, zero_not_one}
 use Rattle.regions.specs.declared.Region.{Region}
 use Rattle.regions.specs.declared.Tag.{Tag}
@@ -35,7 +35,7 @@ eligible_lies q runs a e =
     let p = both (eqb (a % q.align.0) 0) (w && in_one (asks q) q.size.0 a runs) e in
     let r = both w (in_one (asks q) q.size.0 a runs) p.1 in
     let t = both (leb q.start.0 a) (leb (a + q.size.0) q.end.0) r.0 in
-    record { aligned = eqb_true (a % q.align.0) 0 p.0; start = leb-true q.start.0 a t.0; end = leb-true (a + q.size.0) q.end.0 t.1; run = r.1 }
+    record { aligned = eqb-true (a % q.align.0) 0 p.0; start = leb-true q.start.0 a t.0; end = leb-true (a + q.size.0) q.end.0 t.1; run = r.1 }
 
 pub lies_eligible : (q : Query) (runs : List Region) (a : ℕ) → Lies q runs a → eligible q runs a ≡ true
 unfolding eligible

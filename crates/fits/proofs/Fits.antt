@@ -1,12 +1,12 @@
 -- One stretch: the fits are the lowest and the highest address of it that is in the window, and the code's steps find them. Assumes nothing.
 use Prim.Native.Nat.{ℕ, ◌+◌, ◌-◌, ◌/◌, ◌%◌, ◌≤◌, ◌<◌, min, max}
 use mathlib.Core.Path.{◌≡◌, refl, sym, ap, ◌∙◌}
-use mathlib.Core.Bool.{Bool, true, false, cond, not, ◌&&◌, ◌||◌, and_false, or-false}
+use mathlib.Core.Bool.{Bool, true, false, cond, not, ◌&&◌, ◌||◌, and-false, or-false}
 use mathlib.Core.Option.{none, some}
 use native.Mathlib.Omega.{arith}
 use native.Mathlib.Nat.{div-one}
 use lib.Dec.{leb, eqb}
-use borrow.Author.Tests.{le-leb, lt-leb, leb-true, leb-false, eq-eqb, ne_eqb, eqb_true, eqb-false}
+use borrow.Author.Tests.{le-leb, lt-leb, leb-true, leb-false, eq-eqb, ne_eqb, eqb-true, eqb-false}
 use Rattle.address.specs.Numbers.{address, difference, up, down, power_of_two}
 use Rattle.address.specs.declared.Address.{Address}
 use Rattle.address.specs.declared.CheckedAddress.{CheckedAddress}
@@ -51,7 +51,7 @@ module _ (q : Query) (hi a : ℕ) where
       let g = both (eqb (a % q.align.0) 0) (leb q.start.0 a && leb (a + q.size.0) q.end.0) f.0 in
       let h = both (leb q.start.0 a) (leb (a + q.size.0) q.end.0) g.1 in
       record {
-        even = eqb_true (a % q.align.0) 0 g.0;
+        even = eqb-true (a % q.align.0) 0 g.0;
         from = leb-true q.start.0 a h.0;
         to = leb-true (a + q.size.0) q.end.0 h.1;
         by = leb-true (a + q.size.0) hi f.1;
@@ -118,8 +118,8 @@ digit_le : (x y : ℕ) → x < 2 → y < 2 → leb x y ≡ not (eqb x 1) || eqb 
 digit_le x y h k = go (eqb x 1) (eqb y 1) refl refl
   where
     go : (a b : Bool) → eqb x 1 ≡ a → eqb y 1 ≡ b → leb x y ≡ not a || b
-    go true true e f = le-leb x y (omega (arith, eqb_true x 1 e, eqb_true y 1 f))
-    go true false e f = let d = eqb-false y 1 f in lt-leb x y (omega (arith, eqb_true x 1 e))
+    go true true e f = le-leb x y (omega (arith, eqb-true x 1 e, eqb-true y 1 f))
+    go true false e f = let d = eqb-false y 1 f in lt-leb x y (omega (arith, eqb-true x 1 e))
     go false b e f = let d = eqb-false x 1 e in le-leb x y (omega arith)
 
 module _ (wish flags : ℕ) where
@@ -145,7 +145,7 @@ module _ (wish flags : ℕ) where
 
 module _ (q : Query) (r : Region) where
   pub serves_other : (q.node ≡ 4294967295 → ⊥) → (r.tag.node ≡ q.node → ⊥) → false ≡ serves (asks q) r
-  serves_other n m = rw (ne_eqb q.node 4294967295 n, ne_eqb r.tag.node q.node m, and_false)
+  serves_other n m = rw (ne_eqb q.node 4294967295 n, ne_eqb r.tag.node q.node m, and-false)
 
   module _ (b : Bool) (x : b ≡ open_to q.wish r.tag.flags) where
     pub serves_any : q.node ≡ 4294967295 → b ≡ serves (asks q) r

@@ -1,7 +1,7 @@
 -- E1's sentences on what an intake answers: 1 for the block before 10 for the report, and 6 for an entry whatever comes after it. Assumes nothing.
 use Prim.Native.Nat.{ℕ, ◌/◌, ◌%◌, ◌<◌}
 use mathlib.Core.Path.{◌≡◌, refl}
-use mathlib.Core.Bool.{Bool, true, false, cond, and_false}
+use mathlib.Core.Bool.{Bool, true, false, cond, and-false}
 use mathlib.Core.List.{List, [], ◌∷◌, ◌++◌}
 use lib.Dec.{eqb}
 use lib.ListN.{length}
@@ -42,7 +42,7 @@ module _ (L : Layout) (r b : List ℕ) where
     -- and so do more than 128 entries
     pub over_128 : 128 < length r / 20 → intake_e820 L r b ≡ outcome 10 b
     unfolding intake_e820 readable
-    over_128 n = rw (g, lt-leb (length r / 20) 128 n, and_false)
+    over_128 n = rw (g, lt-leb (length r / 20) 128 n, and-false)
 
     -- an entry that gets 6 ends the intake with 6 and the block as it was, even if the trimmed list would fit
     pub six_given : readable r ≡ true → (cs : List Command) (c : Command) (ds : List Command) → commands (entries r) ≡ cs ++ (c ∷ ds)

@@ -6,7 +6,7 @@ use mathlib.Core.List.{List, [], ◌∷◌, ◌++◌, append_assoc, Memᴰ}
 use native.Mathlib.Omega.{arith}
 use lib.Dec.{eqb}
 use lib.ListN.{drop}
-use borrow.Author.Tests.{eq-eqb, ne_eqb, eqb_true}
+use borrow.Author.Tests.{eq-eqb, ne_eqb, eqb-true}
 use Rattle.regions.proofs.Items.{items_rest, items_end}
 use Rattle.block.specs.Block.{current}
 use Rattle.range.specs.Outcomes.{Outcome, outcome, done_with}
@@ -44,7 +44,7 @@ unfolding in_turn
 turn_last s b = go (s b) (eqb (s b).number 0) refl
   where
     go : (o : Outcome) (t : Bool) → eqb o.number 0 ≡ t → cond t (done_with o.block) o ≡ o
-    go o true e = let p = eqb_true o.number 0 e in λ i. record { number = sym p i; block = o.block }
+    go o true e = let p = eqb-true o.number 0 e in λ i. record { number = sym p i; block = o.block }
     go o false e = refl
 
 -- ---- commands in turn

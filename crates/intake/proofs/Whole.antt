@@ -7,7 +7,7 @@ use native.Mathlib.Omega.{arith}
 use lib.Dec.{eqb}
 use lib.ListN.{length, take, drop, take-append-drop, drop_of_length-le}
 use lib.Seq.{take_all, length-take-le}
-use borrow.Author.Tests.{eq-eqb, ne_eqb, le-leb, eqb_true, eqb-false}
+use borrow.Author.Tests.{eq-eqb, ne_eqb, le-leb, eqb-true, eqb-false}
 use Rattle.block.specs.declared.Layout.{Layout}
 use Rattle.block.specs.Block.{current, good}
 use Rattle.range.specs.Outcomes.{Outcome, outcome, unless}
@@ -81,7 +81,7 @@ module _ (n : ℕ) (t : Bool) (ss : List Step) (b : List ℕ) where
 
       go : (g : Bool) → good current b ≡ g → (u : Bool) → t ≡ u → (v : Bool) → eqb o.number 0 ≡ v
           → (unless g 1 b (unless u n b (unless v o.number b o))).number ≡ 0 → TakenIn ss b (checked n t ss b)
-      go true g true e true f z = record { is_good = g; number = eqb_true o.number 0 f; outcome = rw (g, e, f) }
+      go true g true e true f z = record { is_good = g; number = eqb-true o.number 0 f; outcome = rw (g, e, f) }
       go true g true e false f z = absurd (eqb-false o.number 0 f z)
       go true g false e v f z = absurd (some z)
       go false g u e v f z = let y : ⊥ = omega arith in absurd y

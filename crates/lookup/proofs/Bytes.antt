@@ -3,7 +3,7 @@ use Prim.Native.Nat.{ℕ, zero, suc, ◌+◌, ◌-◌, ◌≤◌, ◌<◌}
 use mathlib.Core.Path.{◌≡◌, refl, sym, ap, ◌∙◌}
 use mathlib.Core.Bool.{Bool, true, false, ◌&&◌}
 use mathlib.Core.List.{List, [], ◌∷◌}
-use native.Mathlib.Numerals.{add_one}
+use native.Mathlib.Numerals.{add-one}
 use native.Mathlib.Omega.{arith}
 use lib.Dec.{eqb}
 use lib.ListN.{length, drop, get_or, length-drop, drop_of_length-le}
@@ -36,7 +36,7 @@ module _ (a b : List ℕ) (lengths : length a ≡ length b) (i : ℕ) (inv : sam
     unfolding same
     here =
         let h' : i < length b = omega arith in
-        inv ∙ rw (drop-cons a i 0 h, drop-cons b i 0 h', add_one) refl
+        inv ∙ rw (drop-cons a i 0 h, drop-cons b i 0 h', add-one) refl
 
     pub same_differ : (get_or a i 0 ≡ get_or b i 0 → ⊥) → false ≡ same a b
     same_differ e = sym (here ∙ rw (ne_eqb (get_or a i 0) (get_or b i 0) e) refl)
@@ -97,7 +97,7 @@ module _ (strings : List ℕ) (at : ℕ) (name : List ℕ) where
 
       module _ (g : j < length name) where
         rest : drop j name ≡ get_or name j 0 ∷ drop (j + 1) name
-        rest = rw (drop-cons name j 0 g, add_one) refl
+        rest = rw (drop-cons name j 0 g, add-one) refl
 
         pub named_zero : get_or strings (at + j) 0 ≡ 0 → false ≡ same (name_at strings at) name
         unfolding same

@@ -4,7 +4,7 @@ use mathlib.Core.Path.{◌≡◌, refl, ap, ap₂, ◌∙◌}
 use mathlib.Core.Bool.{Bool, true, false, ◌&&◌}
 use mathlib.Core.List.{List, [], ◌∷◌, map}
 use lib.Dec.{eqb}
-use borrow.Author.Tests.{eqb_true}
+use borrow.Author.Tests.{eqb-true}
 use Rattle.address.specs.Numbers.{power_below}
 use Rattle.address.proofs.Tests.{both}
 use Rattle.regions.specs.declared.Region.{Region}
@@ -106,8 +106,8 @@ unfolding same_region
 same_region_lem r q e =
     let p = both (eqb r.base.0 q.base.0 && eqb r.size.0 q.size.0) (same_tag r.tag q.tag) e in
     let n = both (eqb r.base.0 q.base.0) (eqb r.size.0 q.size.0) p.0 in
-    let b = eqb_true r.base.0 q.base.0 n.0 in
-    let s = eqb_true r.size.0 q.size.0 n.1 in
+    let b = eqb-true r.base.0 q.base.0 n.0 in
+    let s = eqb-true r.size.0 q.size.0 n.1 in
     let t = tags-equal r.tag q.tag p.1 in
     λ i. record { base = record { 0 = b i }; size = record { 0 = s i }; tag = t i }
 
@@ -159,9 +159,9 @@ right_holds c e =
       numbers = same_true (map (λ (p : Result). p.number) ps) c.numbers n.0;
       slips = same_slips_lem (map (λ (p : Result). p.slip) ps) c.slips n.1;
       memory = same_regions_lem s.memory c.memory x.0;
-      memory_total = eqb_true (sizes c.memory) c.memory_total x.1;
+      memory_total = eqb-true (sizes c.memory) c.memory_total x.1;
       taken = same_regions_lem s.taken c.taken y.0;
-      taken_total = eqb_true (sizes c.taken) c.taken_total y.1;
+      taken_total = eqb-true (sizes c.taken) c.taken_total y.1;
     }
 
 all_right : List Case → Bool

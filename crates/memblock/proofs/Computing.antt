@@ -8,7 +8,7 @@ use native.Mathlib.Omega.{arith}
 use lib.Dec.{leb, ltb, eqb}
 use lib.ListN.{length, replicate}
 use lib.Pow.{pow_pos}
-use borrow.Author.Tests.{leb-true, ltb-true, eqb_true}
+use borrow.Author.Tests.{leb-true, ltb-true, eqb-true}
 use Rattle.address.specs.Numbers.{power_of_two}
 use Rattle.address.proofs.Tests.{both, zero_not_one}
 use Rattle.address.proofs.Powers.{power_is, power_some}
@@ -249,7 +249,7 @@ module _ (s : Contents) (sp : Spellable current s) where
   asked_is : (q : Query) (slip : List ℕ) → asks q slip ≡ true → (a : Answer) → (asking (check_number current q (block_bytes current s)) (block_bytes current s) slip a ≡ a) × ((0 < q.size.0) × (0 < q.align.0))
   asked_is q slip e a =
       let p = both (eqb (length slip) 16) (eqb (refusal q) 0) e in
-      let n : check_number current q (block_bytes current s) ≡ 0 = rw is_good (eqb_true (refusal q) 0 p.1) in
+      let n : check_number current q (block_bytes current s) ≡ 0 = rw is_good (eqb-true (refusal q) 0 p.1) in
       let t = number_ready current (block_bytes current s) q n in
       (rw (p.0, is_good, p.1), (t.1, power_some q.align.0 t.0.1))
 

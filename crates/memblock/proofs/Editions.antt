@@ -1,7 +1,7 @@
 -- A block of edition 1, or of another length than a block's, gets number 1 from every call. Assumes nothing.
 use Prim.Native.Nat.{ℕ}
 use mathlib.Core.Path.{◌≡◌, refl, sym, ◌∙◌}
-use mathlib.Core.Bool.{Bool, true, false, cond, and_false}
+use mathlib.Core.Bool.{Bool, true, false, cond, and-false}
 use mathlib.Core.List.{List}
 use native.Mathlib.Omega.{arith}
 use lib.Dec.{eqb}
@@ -48,7 +48,7 @@ other_length c b d s = go c s
     go (to_intake report) s = rw bad
     go (to_intake_tree tree) s = rw bad
     go (to_intake_trees board service) s = rw bad
-    go (to_convert old) s = rw (l, and_false (good_one old))
+    go (to_convert old) s = rw (l, and-false (good_one old))
 
 pub edition_sentence : EditionSentence
 edition_sentence =

@@ -4,7 +4,7 @@ use mathlib.Core.Path.{◌≡◌, refl, sym, ap, ◌∙◌}
 use mathlib.Core.Bool.{Bool, true, false, cond}
 use mathlib.Core.List.{List, [], ◌∷◌, ◌++◌}
 use lib.Dec.{eqb}
-use borrow.Author.Tests.{eq-eqb, eqb_true, eqb-false}
+use borrow.Author.Tests.{eq-eqb, eqb-true, eqb-false}
 use Rattle.block.specs.Block.{current}
 use Rattle.range.specs.Outcomes.{Outcome, done_with}
 use Rattle.tables.specs.Commands.{Command}
@@ -42,7 +42,7 @@ module _ (cs : List Command) (ss : List Step) (b : List ℕ) (h : (in_turn (step
     where
       go : (t : Bool) → eqb (in_turn (steps current cs) b).number 0 ≡ t
           → (cond t (in_turn ss (in_turn (steps current cs) b).block) (in_turn (steps current cs) b)).number ≡ 0 → (in_turn (steps current cs) b).number ≡ 0
-      go true e z = eqb_true (in_turn (steps current cs) b).number 0 e
+      go true e z = eqb-true (in_turn (steps current cs) b).number 0 e
       go false e z = z
 
   pub rest_is : in_turn (steps current cs ++ ss) b ≡ in_turn ss (run cs b)

@@ -5,7 +5,7 @@ use mathlib.Core.Bool.{Bool, true, false, cond, ◌&&◌}
 use mathlib.Core.List.{List, [], ◌∷◌, Memᴰ, Permᴰ}
 use native.Mathlib.Omega.{arith}
 use lib.Dec.{eqb}
-use borrow.Author.Tests.{eqb_true, eq-eqb}
+use borrow.Author.Tests.{eqb-true, eq-eqb}
 use Rattle.address.proofs.Tests.{both, and}
 use Rattle.regions.specs.declared.Tag.{Tag}
 use Rattle.regions.specs.Meaning.{same_tag}
@@ -34,9 +34,9 @@ same_verb_lem : (v u : Verb) → same_verb v u ≡ true → v ≡ u
 same_verb_lem v u h =
     let p = both (eqb (code v) (code u)) (same_tag (tag_of v) (tag_of u) && eqb (flag_of v) (flag_of u)) h in
     let q = both (same_tag (tag_of v) (tag_of u)) (eqb (flag_of v) (flag_of u)) p.1 in
-    let c = eqb_true (code v) (code u) p.0 in
+    let c = eqb-true (code v) (code u) p.0 in
     let t = same_true (tag_of v) (tag_of u) q.0 in
-    let f = eqb_true (flag_of v) (flag_of u) q.1 in
+    let f = eqb-true (flag_of v) (flag_of u) q.1 in
     sym (decode_code v) ∙ (λ i. decode (c i) (t i) (f i)) ∙ decode_code u
 
 same_call_lem : (d e : Command) → same_call d e ≡ true → d ≡ e
@@ -44,7 +44,7 @@ same_call_lem d e h =
     let p = both (same_verb d.verb e.verb) (eqb d.base e.base && eqb d.size e.size) h in
     let q = both (eqb d.base e.base) (eqb d.size e.size) p.1 in
     let v = same_verb_lem d.verb e.verb p.0 in
-    λ i. record { verb = v i; base = eqb_true d.base e.base q.0 i; size = eqb_true d.size e.size q.1 i }
+    λ i. record { verb = v i; base = eqb-true d.base e.base q.0 i; size = eqb-true d.size e.size q.1 i }
 
 verb_self : (v : Verb) → same_verb v v ≡ true
 verb_self v = and (eq-eqb (code v) (code v) refl) (and (same_self (tag_of v)) (eq-eqb (flag_of v) (flag_of v) refl))

@@ -7,7 +7,7 @@ use mathlib.Core.Logic.{◌⊎◌, inl, inr}
 use native.Mathlib.Omega.{arith}
 use lib.Dec.{leb, eqb}
 use lib.ListN.{length, replicate}
-use borrow.Author.Tests.{eq-eqb, eqb_true, eqb-false}
+use borrow.Author.Tests.{eq-eqb, eqb-true, eqb-false}
 use Rattle.address.specs.Numbers.{power_of_two}
 use Rattle.address.proofs.Tests.{clash}
 use Rattle.regions.specs.declared.Kind.TheVariants.{Taken}
@@ -102,7 +102,7 @@ module _ (b : List ℕ) where
   wholly_keeps ss = go (eqb (in_turn ss b).number 0) refl
     where
       go : (t : Bool) → eqb (in_turn ss b).number 0 ≡ t → Keeps b (unless t (in_turn ss b).number b (in_turn ss b))
-      go true e = λ d. absurd (d (eqb_true (in_turn ss b).number 0 e))
+      go true e = λ d. absurd (d (eqb-true (in_turn ss b).number 0 e))
       go false e = λ d. refl
 
   -- after the block's check and one of what is lent
@@ -161,7 +161,7 @@ module _ (b slip : List ℕ) where
   with_slip_fair x h = go (eqb (length slip) 16) refl
     where
       go : (t : Bool) → eqb (length slip) 16 ≡ t → Fair b slip [] (cond t x (answer 8 b slip))
-      go true e = h (eqb_true (length slip) 16 e)
+      go true e = h (eqb-true (length slip) 16 e)
       go false e =
           record {
             block = λ d. refl;
@@ -194,7 +194,7 @@ module _ (b slip : List ℕ) where
   -- what is answered past the checks
   asking_fair : (n : ℕ) (x : Answer) → (n ≡ 0 → good current b ≡ true) → (length slip ≡ 16 → good current b ≡ true → Fair b slip [] x) → Fair b slip [] (asking n b slip x)
   asking_fair n x c h =
-      with_slip_fair b slip (unlessAnswer (eqb n 0) n b x) (λ l. unless_fair b slip l (eqb n 0) n x (eqb-false n 0) (λ e. h l (c (eqb_true n 0 e))))
+      with_slip_fair b slip (unlessAnswer (eqb n 0) n b x) (λ l. unless_fair b slip l (eqb n 0) n x (eqb-false n 0) (λ e. h l (c (eqb-true n 0 e))))
 
   place_fair : length slip ≡ 16 → good current b ≡ true → (p : Place) → Fair b slip [] (place_answer b p)
   place_fair l g Nowhere = refuse_fair b slip l 5 (λ z. omega (arith, z))
@@ -241,7 +241,7 @@ module _ (b slip : List ℕ) where
             block = λ d. refl;
             buffer = λ d. refl;
             zero = λ d m. refl;
-            lent = λ d m. absurd (m (eqb_true (length slip) 16 l));
+            lent = λ d m. absurd (m (eqb-true (length slip) 16 l));
             is_good = λ z. absurd (omega (arith, z));
           }
       go false l u g =
@@ -285,7 +285,7 @@ pub left_good : (c : Call) (b : List ℕ) → good current b ≡ true → (n : �
 left_good c b g n x e = ap (λ (o : Answer). good current o.block) e ∙ go (eqb (answer_of c b).number 0) refl
   where
     go : (t : Bool) → eqb (answer_of c b).number 0 ≡ t → good current (answer_of c b).block ≡ true
-    go true z = done_sentence c b (eqb_true (answer_of c b).number 0 z)
+    go true z = done_sentence c b (eqb-true (answer_of c b).number 0 z)
     go false z = ap (good current) (refusal_sentence c b (eqb-false (answer_of c b).number 0 z)).block ∙ g
 
 -- and fresh makes one of any bytes of the right length

@@ -9,7 +9,7 @@ use native.Mathlib.Omega.{arith}
 use native.Mathlib.Nat.{mod-one, le_trans}
 use lib.Dec.{leb, eqb}
 use lib.Pow.{pow_pos}
-use borrow.Author.Tests.{eq-eqb, eqb_true, eqb-false, le-leb, leb-true, leb-false}
+use borrow.Author.Tests.{eq-eqb, eqb-true, eqb-false, le-leb, leb-true, leb-false}
 use Rattle.address.specs.Numbers.{down}
 use Rattle.address.proofs.Tests.{both, and, clash, le_or_lt}
 use Rattle.address.proofs.Rounding.{down_le, down_near, down_multiple, next_multiple}
@@ -66,7 +66,7 @@ module _ (f l : ℕ) where
             absurd (omega (arith, leb-false (c + 2 ^ o) l y))
         go true e false x v y = absurd (eqb-false (c % 2 ^ o) 0 x (down_odd c (2 ^ o) (edge o h e)))
         go false e true x true y =
-            let d = down_same c (2 ^ o) (eqb_true (c % 2 ^ o) 0 x) in
+            let d = down_same c (2 ^ o) (eqb-true (c % 2 ^ o) 0 x) in
             let i = le-leb f (down c (2 ^ o)) (omega arith) in
             let j = le-leb (down c (2 ^ o) + 2 ^ o) l (omega (arith, leb-true (c + 2 ^ o) l y)) in
             absurd (clash (within f l o (down c (2 ^ o))) (and i j) e)
@@ -81,7 +81,7 @@ module _ (f l : ℕ) where
     edge_next g m o h e = go (le_or_lt o g)
       where
         even : c % 2 ^ g ≡ 0
-        even = eqb_true (c % 2 ^ g) 0 (both (eqb (c % 2 ^ g) 0) (leb (c + 2 ^ g) l) m.0).0
+        even = eqb-true (c % 2 ^ g) 0 (both (eqb (c % 2 ^ g) 0) (leb (c + 2 ^ g) l) m.0).0
 
         b : ℕ
         b = down (c + 2 ^ g) (2 ^ o)
@@ -127,7 +127,7 @@ module _ (f l : ℕ) where
             let j = pow_pos g in
             let o = same c low (omega arith) ∙ edge_order c low edge ∙ e in
             let k : l - c ≡ 2 ^ g + (l - (c + 2 ^ g)) = omega arith in
-            rw (k, pieces_one free c g (l - (c + 2 ^ g)) o (eqb_true (c % 2 ^ g) 0 p.0))
+            rw (k, pieces_one free c g (l - (c + 2 ^ g)) o (eqb-true (c % 2 ^ g) 0 p.0))
             (ap (λ (t : List Piece). piece c g ∷ t) (ih (c + 2 ^ g) (omega arith) (omega arith) (edge_next c low edge g m)))
 
     -- the pages from f to l, cut

@@ -9,7 +9,7 @@ use native.Mathlib.Omega.{arith}
 use native.Mathlib.Nat.{zero-add, add-zero, suc-add, add-suc}
 use lib.Dec.{eqb}
 use lib.Pow.{pow_pos}
-use borrow.Author.Tests.{eq-eqb, ne_eqb, eqb_true}
+use borrow.Author.Tests.{eq-eqb, ne_eqb, eqb-true}
 use Rattle.address.specs.Numbers.{down}
 use Rattle.address.proofs.Rounding.{down_multiple}
 use Rattle.pages.specs.declared.Piece.{Piece}
@@ -77,7 +77,7 @@ module _ (free : PageTest) where
   starts_cases p = go (order_at free p) refl
     where
       at : (o : ℕ) → order_at free p ≡ some o → (t : Bool) → eqb (p % 2 ^ o) 0 ≡ t → (starts_at p ≡ []) ⊎ ((o : ℕ) × Begins p o)
-      at o e true f = inr (o, record { order = e; first = eqb_true (p % 2 ^ o) 0 f; listed = rw (e, f) })
+      at o e true f = inr (o, record { order = e; first = eqb-true (p % 2 ^ o) 0 f; listed = rw (e, f) })
       at o e false f = inl (rw (e, f))
 
       go : (v : Option ℕ) → order_at free p ≡ v → (starts_at p ≡ []) ⊎ ((o : ℕ) × Begins p o)

@@ -1,7 +1,7 @@
 -- A page's order, by the run that it lies in: the runs one after the other. Assumes nothing.
 use Prim.Native.Nat.{ℕ, ◌+◌, ◌*◌, ◌^◌, ◌≤◌, ◌<◌}
 use mathlib.Core.Path.{◌≡◌, refl}
-use mathlib.Core.Bool.{true, false, not, and_false, or_true, or-false}
+use mathlib.Core.Bool.{true, false, not, and-false, or-true, or-false}
 use mathlib.Core.List.{List, [], ◌∷◌}
 use mathlib.Core.Option.{none}
 use native.Mathlib.Omega.{arith}
@@ -36,7 +36,7 @@ leb_same a b c d f g = iff (leb a b) (leb c d) (λ e. le-leb c d (f (leb-true a 
 
 -- wish 1 and any node ask for every run
 pub all_wanted : (t : Tag) → wanted 4294967295 1 t ≡ true
-all_wanted t = rw (or_true (not (has 1 t.flags)))
+all_wanted t = rw (or-true (not (has 1 t.flags)))
 
 -- nothing that begins below a list's runs lies in one of them
 below_none : (s a : ℕ) {c n : ℕ} {v : State} {xs : List Region} → Rises c v n xs → a < c → in_one (wanted 4294967295 1) s a xs ≡ false
@@ -53,7 +53,7 @@ module _ (r : Region) (rs : List Region) (q : ℕ) where
       order_same (whole (r ∷ rs)) (whole rs) q
       (λ o h.
       let n = down_near q (2 ^ o) (pow_pos o) in
-      rw (all_wanted r.tag, lt-leb (4096 * down q (2 ^ o) + 4096 * 2 ^ o) (end r) (omega arith), and_false))
+      rw (all_wanted r.tag, lt-leb (4096 * down q (2 ^ o) + 4096 * 2 ^ o) (end r) (omega arith), and-false))
 
   -- before the run there is none, where the list begins with it
   pub before_run : {c n : ℕ} {v : State} → Rises c v n (r ∷ rs) → q < first_page r → order_at (whole (r ∷ rs)) q ≡ none

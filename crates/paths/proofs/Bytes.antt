@@ -3,7 +3,7 @@ use Prim.Native.Nat.{ℕ, zero, suc, ◌+◌, ◌-◌, ◌≤◌, ◌<◌}
 use mathlib.Core.Path.{◌≡◌, refl, sym, ap, ◌∙◌}
 use mathlib.Core.Bool.{Bool, true, false, cond, ◌&&◌}
 use mathlib.Core.List.{List, [], ◌∷◌, ◌++◌}
-use native.Mathlib.Numerals.{add_one}
+use native.Mathlib.Numerals.{add-one}
 use native.Mathlib.Omega.{arith}
 use lib.Dec.{eqb}
 use lib.ListN.{length, drop, take, get_or, length-drop, length-take, length-append, get_or-append}
@@ -78,7 +78,7 @@ module _ (w : List ℕ) (done : ℕ) (s : List ℕ) (at n : ℕ) (h : done ≤ l
 
   module _ (k : n < len - done) (x : ℕ) (ex : x ≡ get_or w done 0) where
     front : drop done w ≡ x ∷ drop (done + 1) w
-    front = let k' : done < length w = omega arith in rw (drop-cons w done 0 k', add_one, ← ex) refl
+    front = let k' : done < length w = omega arith in rw (drop-cons w done 0 k', add-one, ← ex) refl
 
     pub way_other : (x ≡ 47 → ⊥) → false ≡ starts (47 ∷ take n (drop at s)) (drop done w)
     unfolding starts

@@ -3,12 +3,12 @@ use Prim.Native.Nat.{ℕ, suc, ◌+◌, ◌-◌}
 use mathlib.Core.Path.{◌≡◌, refl, sym, ap, ◌∙◌}
 use mathlib.Core.Bool.{Bool, true, false, cond, ◌&&◌}
 use mathlib.Core.List.{List, [], ◌∷◌, ◌++◌, append_assoc, append-nil}
-use native.Mathlib.Numerals.{add_one}
+use native.Mathlib.Numerals.{add-one}
 use native.Mathlib.Omega.{arith}
 use lib.Dec.{eqb}
 use lib.ListN.{length, drop, take, get_or, length-drop}
 use lib.Seq.{take_all}
-use borrow.Author.Tests.{eq-eqb, ne_eqb, eqb_true}
+use borrow.Author.Tests.{eq-eqb, ne_eqb, eqb-true}
 use Rattle.tree.specs.Content.{Content, nothing, property, node}
 use Rattle.tree.specs.Steps.{places_at}
 use Rattle.tree.proofs.Booleans.{never}
@@ -71,7 +71,7 @@ starts_split (x ∷ xs) [] e = let z : ◌≡◌ {A = ℕ} 0 1 = cc in absurd (o
 starts_split (x ∷ xs) (y ∷ l) e = go (eqb x y) refl e (λ q. starts_split xs l q)
   where
     go : (t : Bool) → eqb x y ≡ t → t && starts xs l ≡ true → (starts xs l ≡ true → l ≡ xs ++ drop (length xs) l) → y ∷ l ≡ x ∷ (xs ++ drop (length xs) l)
-    go true z q f = let w : x ≡ y = eqb_true x y z in rw w (ap (λ (k : List ℕ). y ∷ k) (f q))
+    go true z q f = let w : x ≡ y = eqb-true x y z in rw w (ap (λ (k : List ℕ). y ∷ k) (f q))
     go false z q f = let w : ◌≡◌ {A = ℕ} 0 1 = cc in absurd (omega arith)
 
 other_start : (xs l : List ℕ) → starts xs l ≡ false → same xs l ≡ false
@@ -121,7 +121,7 @@ on_way strings p name way rest here (node n inner x) s h =
         off_way strings p name (way ++ (n ∷ [])) inner (path_on way n) (rw (steps_on way n, s, starts_cancel (steps way) (47 ∷ n) rest) e)
     child strings p name way rest n inner s f true e =
         let r = drop (length n + 1) rest in
-        let a : rest ≡ (47 ∷ n) ++ r = starts_split (47 ∷ n) rest e ∙ rw (add_one (length n)) refl in
+        let a : rest ≡ (47 ∷ n) ++ r = starts_split (47 ∷ n) rest e ∙ rw (add-one (length n)) refl in
         let b : p ≡ steps (way ++ (n ∷ [])) ++ r = s ∙ ap (λ (y : List ℕ). steps way ++ y) a ∙ rw (steps_on way n) (sym (append_assoc (steps way) (47 ∷ n) r)) in
         let k : eqb (length r) 0 ≡ same (path (way ++ (n ∷ []))) p = sym (rw (path_on way n) (ap (λ (y : List ℕ). same (steps (way ++ (n ∷ []))) y) b ∙ same_more (steps (way ++ (n ∷ []))) r)) in
         f r (eqb (length r) 0) b k

@@ -7,7 +7,7 @@ use native.Mathlib.Omega.{arith}
 use lib.Dec.{eqb}
 use lib.ListN.{length, drop, take, length-drop, length-take}
 use lib.Seq.{drop-drop}
-use borrow.Author.Tests.{eq-eqb, ne_eqb, eqb_true, eqb-false}
+use borrow.Author.Tests.{eq-eqb, ne_eqb, eqb-true, eqb-false}
 use Rattle.tree.specs.Tokens.{token}
 use Rattle.tree.specs.Content.{Content, nothing, property, node, first}
 use Rattle.tree.specs.Steps.{StepOf, rest_at, contents_at, places_at, answers, ReadsOn, Behind, strip}
@@ -65,7 +65,7 @@ none_left : (p : List ℕ) (to : ℕ) → to ≤ length p → eqb (length (drop 
 none_left p to h = go (eqb to (length p)) refl
   where
     go : (b : Bool) → eqb to (length p) ≡ b → eqb (length (drop to p)) 0 ≡ b
-    go true e = eq-eqb (length (drop to p)) 0 (omega (arith, length-drop to p, eqb_true to (length p) e))
+    go true e = eq-eqb (length (drop to p)) 0 (omega (arith, length-drop to p, eqb-true to (length p) e))
     go false e = ne_eqb (length (drop to p)) 0 (λ z. eqb-false to (length p) e (omega (arith, length-drop to p)))
 
 -- ---- the children of a node

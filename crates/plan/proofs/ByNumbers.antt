@@ -1,7 +1,7 @@
 -- The walk over lines given by their numbers. Assumes nothing.
 use Prim.Native.Nat.{ℕ, zero, suc, ◌+◌, ◌-◌, ◌≤◌, ◌<◌, min}
 use native.Mathlib.Nat.{sub-zero}
-use native.Mathlib.Numerals.{add_one}
+use native.Mathlib.Numerals.{add-one}
 use mathlib.Core.Path.{◌≡◌, refl, sym, ap, ◌∙◌}
 use mathlib.Core.List.{List}
 use native.Mathlib.Omega.{arith}
@@ -53,7 +53,7 @@ module _ (b : List ℕ) (x : Numbers) (n : ℕ) (s₀ : Seen) where
     after_next k e z f =
         let w : z ≡ judged b s (line_of x i) = f ∙ ap (judged b s) e in
         let y : judged_all b (judged b s (line_of x i)) (lines_from x (suc i) (n - (i + 1))) ≡ judged_all b s₀ (lines_from x 0 n) = rw one_more at v.left in
-        record { going = rw w (going_on b s (line_of x i) (n - (i + 1)) left_going); left = rw w (rw (← add_one i) at y) }
+        record { going = rw w (going_on b s (line_of x i) (n - (i + 1)) left_going); left = rw w (rw (← add-one i) at y) }
 
 -- the whole of it
 module _ (b : List ℕ) (x : Numbers) (n : ℕ) (e : n ≡ count_of x) (s : Seen) (f : s ≡ begun b n) where

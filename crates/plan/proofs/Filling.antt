@@ -1,7 +1,7 @@
 -- The ranges filled in turn into a scratch table come to what the definition says of all of them at once. Assumes nothing.
 use Prim.Native.Nat.{ℕ, zero, suc, ◌+◌, ◌*◌, ◌-◌, ◌/◌, ◌≤◌, ◌<◌}
 use native.Mathlib.Nat.{not-suc-le-zero, le_of_suc-le-suc}
-use native.Mathlib.Numerals.{add_one}
+use native.Mathlib.Numerals.{add-one}
 use mathlib.Core.Path.{◌≡◌, refl, sym, ap, ◌∙◌}
 use mathlib.Core.Bool.{Bool, true, false, cond, ◌||◌}
 use mathlib.Core.List.{List, [], ◌∷◌, ◌++◌, append-nil}
@@ -200,7 +200,7 @@ module _ (t₀ : List ℕ) (y₀ : Tally) (s : Seen) (h : Holding s 0) (u : Spel
           let b : e ≡ table_bytes 576 (list_at xs (ranges_of s) (suc i)) = k.after ∙ rw (next, fits, room) in
           let p = answer_is in
           let c : z ≡ tally (list_at xs (ranges_of s) (suc i)) = cc in
-          rw add_one (record {
+          rw add-one (record {
             spells = record { bytes = b; tally = c; room = omega (arith, more); good = list_good xs (ranges_of s) u.good (suc i) };
             longer = more;
           })

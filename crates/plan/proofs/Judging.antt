@@ -6,7 +6,7 @@ use mathlib.Core.List.{List, []}
 use native.Mathlib.Omega.{arith}
 use lib.Dec.{leb, eqb}
 use lib.ListN.{length, take, drop, length-set}
-use borrow.Author.Tests.{eq-eqb, ne_eqb, le-leb, lt-leb, eqb_true, eqb-false, leb-true, not-true, not-false}
+use borrow.Author.Tests.{eq-eqb, ne_eqb, le-leb, lt-leb, eqb-true, eqb-false, leb-true, not-true, not-false}
 use Rattle.address.specs.declared.Address.{Address}
 use Rattle.address.proofs.Tests.{both}
 use Rattle.regions.specs.declared.Kind.TheVariants.{Taken}
@@ -75,7 +75,7 @@ pub passes_fine : (b : List ℕ) → good current b ≡ true → (l : Line) → 
 passes_fine b g l e =
     let s = contents current b in
     let p = both (eqb (refusal l.query) 0) (eligible (window s.settings.limit.0 l.query) (runs_of s) l.at.0) e in
-    let r = refusal_ready b g l.query (eqb_true (refusal l.query) 0 p.0) in
+    let r = refusal_ready b g l.query (eqb-true (refusal l.query) 0 p.0) in
     record {
       some = r.size;
       end = eligible_below (window s.settings.limit.0 l.query) s l.at.0 r.size p.1;

@@ -1,6 +1,6 @@
 -- The ranges seen, one by one. Assumes nothing.
 use Prim.Native.Nat.{ℕ, suc, ◌+◌, ◌≤◌, ◌<◌, min, max}
-use native.Mathlib.Numerals.{add_one}
+use native.Mathlib.Numerals.{add-one}
 use mathlib.Core.Path.{◌≡◌, sym, ap, ◌∙◌}
 use mathlib.Core.Bool.{Bool, true, false, ◌||◌}
 use mathlib.Core.List.{List, ◌∷◌}
@@ -29,7 +29,7 @@ module _ (s : Seen) (r : Run) (h : Holding s 0) (i : ℕ) (inv : any (share r) (
   module _ (l : i < s.count) (d : Run) (b : Bool) (q : b ≡ share r (get_or s.ranges i d)) where
     here : any (share r) (ranges_of s) ≡ b || any (share r) (drop (i + 1) (ranges_of s))
     unfolding any
-    here = inv ∙ rw (taken_cut d s.count i s.ranges l (omega (arith, h.whole, h.room)), ← q, add_one i)
+    here = inv ∙ rw (taken_cut d s.count i s.ranges l (omega (arith, h.whole, h.room)), ← q, add-one i)
 
     pub shared_here : b ≡ true → true ≡ any (share r) (ranges_of s)
     shared_here e = sym (rw e at here)

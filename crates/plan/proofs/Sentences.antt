@@ -10,7 +10,7 @@ use native.Mathlib.Omega.{arith}
 use lib.Dec.{leb, ltb, eqb}
 use lib.ListN.{length, take, get_or, length-map, length-take, get_or-map}
 use lib.Seq.{take-length, get_or-take}
-use borrow.Author.Tests.{eq-eqb, eqb_true, leb-true, le-leb, lt-leb, ltb-true, lt-ltb}
+use borrow.Author.Tests.{eq-eqb, eqb-true, leb-true, le-leb, lt-leb, ltb-true, lt-ltb}
 use Rattle.address.proofs.Tests.{no, clash, both, and, le_or_lt, zero_not_one}
 use Rattle.regions.specs.declared.Run.{Run}
 use Rattle.regions.specs.declared.Region.{Region}
@@ -83,7 +83,7 @@ module _ (b : List ℕ) (g : good current b ≡ true) where
   passes_fit : (l : Line) → passes s l ≡ true → Fit s l
   passes_fit l e =
       let p = both (eqb (refusal l.query) 0) (eligible (window s.settings.limit.0 l.query) (runs_of s) l.at.0) e in
-      let z = eqb_true (refusal l.query) 0 p.0 in
+      let z = eqb-true (refusal l.query) 0 p.0 in
       record { numbers = z; eligible = passes_eligible s l.query (refusal_ready b g l.query z).size l.at.0 p.1 }
 
   fit_passes : (l : Line) → Fit s l → passes s l ≡ true

@@ -1,7 +1,7 @@
 -- The lines judged one after the other come to what the definition says of the whole plan. Assumes nothing.
 use Prim.Native.Nat.{ℕ, zero, suc, ◌+◌, ◌≤◌, ◌<◌, min, max}
 use native.Mathlib.Nat.{not-suc-le-zero}
-use native.Mathlib.Numerals.{add_one}
+use native.Mathlib.Numerals.{add-one}
 use mathlib.Core.Path.{◌≡◌, refl, sym, ap, ◌∙◌}
 use mathlib.Core.Bool.{Bool, true, false, cond, not, ◌&&◌, ◌||◌}
 use mathlib.Core.List.{List, [], ◌∷◌, ◌++◌, map, map-append, append-nil}
@@ -71,7 +71,7 @@ sees_more s ls l v n =
       number = v.number;
       index = v.index;
       count = omega (arith, v.count, length-append ls (l ∷ []));
-      ranges = ap (λ (k : ℕ). take k (set s.ranges s.count (range_of l))) (add_one s.count)
+      ranges = ap (λ (k : ℕ). take k (set s.ranges s.count (range_of l))) (add-one s.count)
           ∙ take-suc-set s.ranges s.count (range_of l) (omega (arith, v.count, v.whole))
           ∙ ap (λ (x : List Run). x ++ (range_of l ∷ [])) v.ranges
           ∙ sym (map-append range_of ls (l ∷ []));

@@ -2,7 +2,7 @@
 use Prim.Native.Nat.{ℕ, zero, suc, ◌+◌, ◌-◌, ◌≤◌, ◌<◌, min}
 use mathlib.Core.Path.{◌≡◌, refl, ap, ◌∙◌}
 use mathlib.Core.List.{List, [], ◌∷◌, ◌++◌}
-use native.Mathlib.Numerals.{add_one}
+use native.Mathlib.Numerals.{add-one}
 use native.Mathlib.Omega.{arith}
 use lib.ListN.{length, take, set, length-set}
 use lib.Seq.{take-suc-set}
@@ -31,7 +31,7 @@ filled_more x n i ls l f h k e =
     record {
       within = omega arith;
       room = simp length-set f.room;
-      lines = rw add_one (take-suc-set ls i l room ∙ cc (lines_more x 0 i i (omega arith)));
+      lines = rw add-one (take-suc-set ls i l room ∙ cc (lines_more x 0 i i (omega arith)));
     }
 
 pub filled_all : (x : Numbers) (n i : ℕ) (ls : List Line) → Filled x n i ls → n ≤ i → take n ls ≡ lines_from x 0 n

@@ -8,7 +8,7 @@ use native.Mathlib.Omega.{arith}
 use lib.Dec.{leb, eqb}
 use lib.ListN.{length, take, drop, take-append-drop}
 use lib.Seq.{sets}
-use borrow.Author.Tests.{leb-true, eqb_true}
+use borrow.Author.Tests.{leb-true, eqb-true}
 use Rattle.address.specs.declared.Address.{Address}
 use Rattle.address.specs.declared.Size.{Size}
 use Rattle.address.specs.Numbers.{power_of_two}
@@ -58,8 +58,8 @@ taken_tagged [] e = tt
 taken_tagged (r ∷ rs) e =
     let p = both (legal_tag Taken r.tag) (legal Taken rs) e in
     let q = both (eqb r.tag.flags 0) (eqb r.tag.node 0) p.0 in
-    let f : r.tag.flags ≡ 0 = eqb_true r.tag.flags 0 q.0 in
-    let n : r.tag.node ≡ 0 = eqb_true r.tag.node 0 q.1 in
+    let f : r.tag.flags ≡ 0 = eqb-true r.tag.flags 0 q.0 in
+    let n : r.tag.node ≡ 0 = eqb-true r.tag.node 0 q.1 in
     (λ i. record { flags = f i; node = n i }, taken_tagged rs p.1)
 
 -- what the rules of a table know changes flags by a weight

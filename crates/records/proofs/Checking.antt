@@ -1,6 +1,6 @@
 -- The walk over a table's records that checks and sums them, step by step. Assumes nothing.
 use Rattle.std.proofs.Common.{◌≡◌, ℕ, ◌+◌, ◌-◌, ◌*◌, ◌/◌, ◌%◌, ◌^◌, ◌<◌, ◌≤◌, Bool, true, false, cond, not, ◌&&◌, ◌⊎◌, List, [], ◌∷◌, length, drop, sym, refl, ap, ◌∙◌, inl, inr, mod-eq_of_lt, arith, le-leb}
-use mathlib.Core.Bool.{and_false}
+use mathlib.Core.Bool.{and-false}
 use native.Mathlib.Nat.{sub-zero, mod-eq-sub-mod}
 use borrow.Author.Tests.{lt-leb, not-true, not-false}
 use Rattle.address.specs.declared.Size.{Size}
@@ -55,13 +55,13 @@ module _ (k : Kind) (xs : List Region) where
       parts = a.test ∙ rw e
 
       along_tag : (b : Bool) → b ≡ legal_tag k r.tag → not b ≡ true → Bad ≡ checked_list k xs
-      along_tag b q t = fails _ parts (rw (← q, not-true b t, and_false))
+      along_tag b q t = fails _ parts (rw (← q, not-true b t, and-false))
 
       along_fit : (b : Bool) → b ≡ fits low below r → not b ≡ true → Bad ≡ checked_list k xs
       along_fit b q t = fails _ parts (rw (← q, not-true b t))
 
       along_end : 2 ^ 64 ≤ end r → Bad ≡ checked_list k xs
-      along_end h = fails _ parts (rw (rises_past (end r) (Present r.tag) top rs (omega (arith, top_is)), and_false))
+      along_end h = fails _ parts (rw (rises_past (end r) (Present r.tag) top rs (omega (arith, top_is)), and-false))
 
       module _ (b : Bool) (q : b ≡ fits low below r) (t : not b ≡ false) where
         fit : Fits low below r
@@ -167,11 +167,11 @@ module _ (k : Kind) (n : ℕ) (l : List ℕ) where
 
     pub table_bad : x ≡ Bad → Bad ≡ checked_table k n l
     unfolding checked_table good_part
-    table_bad f = rw (list_bad f, and_false)
+    table_bad f = rw (list_bad f, and-false)
 
     pub table_tail : (b : Bool) → b ≡ all_zeros (drop (24 * n) l) → not b ≡ true → Bad ≡ checked_table k n l
     unfolding checked_table good_part
-    table_tail b q t = rw (← q, not-true b t, and_false, and_false)
+    table_tail b q t = rw (← q, not-true b t, and-false, and-false)
 
     pub table_done : (s : Size) → x ≡ Total s → n ≤ length l / 24 → (b : Bool) → b ≡ all_zeros (drop (24 * n) l) → not b ≡ false → Total s ≡ checked_table k n l
     unfolding checked_table good_part

@@ -1,5 +1,5 @@
 -- Bytes copied over the front of others, and the records in them. Assumes nothing.
-use Rattle.std.proofs.Common.{◌≡◌, ℕ, suc, ◌+◌, ◌*◌, ◌<◌, ◌≤◌, List, ◌∷◌, ◌++◌, length, get_or, take, drop, set, sym, ap, ◌∙◌, add_one, arith, take-append-drop, length-take-le, drop-cons, take-suc}
+use Rattle.std.proofs.Common.{◌≡◌, ℕ, suc, ◌+◌, ◌*◌, ◌<◌, ◌≤◌, List, ◌∷◌, ◌++◌, length, get_or, take, drop, set, sym, ap, ◌∙◌, add-one, arith, take-append-drop, length-take-le, drop-cons, take-suc}
 use lib.Seq.{set_at, append_snoc}
 use Rattle.regions.specs.Bytes.{read_regions}
 use Rattle.regions.proofs.Records.{read_regions_append}
@@ -9,7 +9,7 @@ module _ (d d₀ s : List ℕ) (i : ℕ) (inv : d ≡ take i s ++ drop i d₀) w
   copy_more h k =
       let n : length (take i s) ≡ i = length-take-le i s (omega arith) in
       let e : d ≡ take i s ++ (get_or d₀ i 0 ∷ drop (suc i) d₀) = inv ∙ ap (λ (x : List ℕ). take i s ++ x) (drop-cons d₀ i 0 k) in
-      rw (e, set_at (take i s) (get_or d₀ i 0) (drop (suc i) d₀) (get_or s i 0) i n, add_one, take-suc s i 0 h, append_snoc)
+      rw (e, set_at (take i s) (get_or d₀ i 0) (drop (suc i) d₀) (get_or s i 0) i n, add-one, take-suc s i 0 h, append_snoc)
 
   pub copy_end : (m : ℕ) → i ≤ m → m ≤ i → d ≡ take m s ++ drop m d₀
   copy_end m h k =

@@ -1,5 +1,5 @@
 -- The bytes of a good list are a table. Assumes nothing.
-use Rattle.std.proofs.Common.{◌≡◌, ℕ, ◌-◌, ◌*◌, ◌≤◌, true, eqb, leb, List, [], ◌∷◌, length, arith, eqb_true, leb-true}
+use Rattle.std.proofs.Common.{◌≡◌, ℕ, ◌-◌, ◌*◌, ◌≤◌, true, eqb, leb, List, [], ◌∷◌, length, arith, eqb-true, leb-true}
 use Rattle.address.proofs.Tests.{both}
 use Rattle.regions.specs.declared.Kind.{Kind}
 use Rattle.regions.specs.declared.Kind.TheVariants.{Memory, Taken}
@@ -15,7 +15,7 @@ use Rattle.records.specs.Steps.{AllFlagsBounded, Table}
 tag_flags_bounded : (k : Kind) (t : Tag) → legal_tag k t ≡ true → t.flags ≤ 7
 unfolding legal_tag
 tag_flags_bounded Memory t e = leb-true t.flags 7 (both (leb t.flags 7) (leb t.node 63) e).0
-tag_flags_bounded Taken t e = omega (arith, eqb_true t.flags 0 (both (eqb t.flags 0) (eqb t.node 0) e).0)
+tag_flags_bounded Taken t e = omega (arith, eqb-true t.flags 0 (both (eqb t.flags 0) (eqb t.node 0) e).0)
 
 legal_flags_bounded : (k : Kind) (xs : List Region) → legal k xs ≡ true → AllFlagsBounded xs
 unfolding legal

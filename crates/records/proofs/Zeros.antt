@@ -1,6 +1,6 @@
 -- Zero bytes, one at a time and as many as make a number. Assumes nothing.
-use Rattle.std.proofs.Common.{◌≡◌, ℕ, zero, suc, ◌+◌, ◌-◌, ◌*◌, ◌<◌, ◌≤◌, Bool, true, false, ◌&&◌, eqb, List, [], ◌∷◌, ◌++◌, length, get_or, take, drop, set, replicate, sym, refl, ap, ◌∙◌, ap₂, append_assoc, append-nil, le_of_suc-le-suc, not-suc-le-zero, add_one, arith, length-append, length-drop, take-append-drop, drop_of_length-le, length-take-le, drop-cons, drop-drop, take-add, eq-eqb, ne_eqb, eqb_true}
-use mathlib.Core.Bool.{and_true, and_false}
+use Rattle.std.proofs.Common.{◌≡◌, ℕ, zero, suc, ◌+◌, ◌-◌, ◌*◌, ◌<◌, ◌≤◌, Bool, true, false, ◌&&◌, eqb, List, [], ◌∷◌, ◌++◌, length, get_or, take, drop, set, replicate, sym, refl, ap, ◌∙◌, ap₂, append_assoc, append-nil, le_of_suc-le-suc, not-suc-le-zero, add-one, arith, length-append, length-drop, take-append-drop, drop_of_length-le, length-take-le, drop-cons, drop-drop, take-add, eq-eqb, ne_eqb, eqb-true}
+use mathlib.Core.Bool.{and-true, and-false}
 use native.Mathlib.Nat.{sub-zero}
 use lib.ListN.{length-replicate, replicate-append-replicate}
 use lib.Seq.{set_at}
@@ -18,7 +18,7 @@ sum_zero b m = go (eqb b 0) refl
     go true e = rest (eqb m 0) refl
       where
         rest : (u : Bool) → eqb m 0 ≡ u → eqb (b + 256 * m) 0 ≡ u
-        rest true f = eq-eqb (b + 256 * m) 0 (omega (arith, eqb_true b 0 e, eqb_true m 0 f))
+        rest true f = eq-eqb (b + 256 * m) 0 (omega (arith, eqb-true b 0 e, eqb-true m 0 f))
         rest false f = ne_eqb (b + 256 * m) 0 (λ z. eqb-false m 0 f (omega arith))
     go false e = ne_eqb (b + 256 * m) 0 (λ z. eqb-false b 0 e (omega arith))
 
@@ -40,7 +40,7 @@ module _ (l : List ℕ) (at i : ℕ) (inv : all_zeros (drop at l) ≡ all_zeros 
 
   step : i < length l → all_zeros (drop at l) ≡ (eqb (get_or l i 0) 0 && all_zeros (drop (i + 1) l))
   unfolding all_zeros
-  step h = inv ∙ ap all_zeros (drop-cons l i 0 h) ∙ rw add_one
+  step h = inv ∙ ap all_zeros (drop-cons l i 0 h) ∙ rw add-one
 
   pub zeros_hit : i < length l → (get_or l i 0 ≡ 0 → ⊥) → false ≡ all_zeros (drop at l)
   zeros_hit h z = rw (step h, ne_eqb (get_or l i 0) 0 z)
@@ -72,7 +72,7 @@ or_none a b = go (eqb a 0) refl
     go true e = rest (eqb b 0) refl
       where
         rest : (u : Bool) → eqb b 0 ≡ u → eqb (bit_or a b) 0 ≡ u
-        rest true f = eq-eqb (bit_or a b) 0 (omega (arith, eqb_true a 0 e, eqb_true b 0 f, or_add_and a b))
+        rest true f = eq-eqb (bit_or a b) 0 (omega (arith, eqb-true a 0 e, eqb-true b 0 f, or_add_and a b))
         rest false f = ne_eqb (bit_or a b) 0 (λ z. eqb-false b 0 f (omega (arith, or_add_and a b, and_le_l a b)))
     go false e = ne_eqb (bit_or a b) 0 (λ z. eqb-false a 0 e (omega (arith, or_add_and a b, and_le_r a b)))
 
@@ -138,20 +138,20 @@ module _ (l : List ℕ) where
     behind : at ≤ i → all_zeros (drop (i - m) l) ≡ eqb v 0
     behind low =
         let n : i - (i - m) ≡ m = omega arith in
-        cut (i - m) i (omega arith) ∙ rw (n, ← e, inv, and_true)
+        cut (i - m) i (omega arith) ∙ rw (n, ← e, inv, and-true)
 
     pub zero_turn : at ≤ i → v ≡ 0 → all_zeros (drop (i - m) l) ≡ true
     zero_turn low z = behind low ∙ eq-eqb v 0 z
 
     pub turn_hit : at ≤ i → (v ≡ 0 → ⊥) → false ≡ all_zeros (drop at l)
-    turn_hit low z = sym (cut at (i - m) (omega arith) ∙ rw (behind low, ne_eqb v 0 z, and_false))
+    turn_hit low z = sym (cut at (i - m) (omega arith) ∙ rw (behind low, ne_eqb v 0 z, and-false))
 
   -- fewer than m are left: they are among the first m
   pub zero_first : (m at i : ℕ) → all_zeros (drop i l) ≡ true → i - at < m → (v : ℕ) → eqb v 0 ≡ all_zeros (take m (drop at l)) → eqb v 0 ≡ all_zeros (drop at l)
   zero_first m at i inv few v e =
       let n : at + m - at ≡ m = omega arith in
       let r : all_zeros (drop (at + m) l) ≡ true = (both (all_zeros (take (at + m - i) (drop i l))) (all_zeros (drop (at + m) l)) (sym (cut i (at + m) (omega arith)) ∙ inv)).1 in
-      sym (cut at (at + m) (omega arith) ∙ rw (n, ← e, r, and_true))
+      sym (cut at (at + m) (omega arith) ∙ rw (n, ← e, r, and-true))
 
 -- zeros are zeros
 pub zeros_replicate : (l : List ℕ) → all_zeros l ≡ true → l ≡ replicate (length l) 0
@@ -159,7 +159,7 @@ unfolding all_zeros
 zeros_replicate [] h = refl
 zeros_replicate (b ∷ l) h =
     let p = both (eqb b 0) (all_zeros l) h in
-    ap₂ (λ (z : ℕ) (zs : List ℕ). z ∷ zs) (eqb_true b 0 p.0) (zeros_replicate l p.1)
+    ap₂ (λ (z : ℕ) (zs : List ℕ). z ∷ zs) (eqb-true b 0 p.0) (zeros_replicate l p.1)
 
 pub replicate_zeros : (n : ℕ) → all_zeros (replicate n 0) ≡ true
 unfolding all_zeros
@@ -178,7 +178,7 @@ module _ (t l : List ℕ) (at i : ℕ) (inv : t ≡ take at l ++ (replicate (i -
       let e : t ≡ p ++ (get_or l i 0 ∷ drop (suc i) l) = inv ∙ sym (append_assoc (take at l) (replicate k 0) (drop i l)) ∙ ap (λ (x : List ℕ). p ++ x) (drop-cons l i 0 h) in
       let f : i + 1 - at ≡ k + 1 = omega arith in
       let g : replicate {A = ℕ} (k + 1) 0 ≡ replicate k 0 ++ (0 ∷ []) = sym (replicate-append-replicate k 1 0) in
-      rw (e, set_at p (get_or l i 0) (drop (suc i) l) 0 i n, f, g, add_one, append_assoc, append_assoc)
+      rw (e, set_at p (get_or l i 0) (drop (suc i) l) 0 i n, f, g, add-one, append_assoc, append_assoc)
 
   pub zero_end : i ≤ length l → length l ≤ i → t ≡ take at l ++ replicate (length l - at) 0
   zero_end h k =

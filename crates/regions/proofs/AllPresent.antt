@@ -1,7 +1,7 @@
 -- Every address of a range is present, or one of them is absent. Assumes nothing.
 use Prim.Native.Nat.{ℕ, zero, suc, ◌+◌, ◌-◌, ◌≤◌, ◌<◌}
 use mathlib.Core.Path.{◌≡◌, refl}
-use mathlib.Core.Bool.{Bool, true, false, ◌&&◌, and_false}
+use mathlib.Core.Bool.{Bool, true, false, ◌&&◌, and-false}
 use mathlib.Core.List.{List}
 use mathlib.Core.Logic.{◌⊎◌, inl, inr}
 use native.Mathlib.Omega.{arith}
@@ -30,7 +30,7 @@ module _ (f : Meaning) (a : ℕ) where
       go (inl i) ih =
           let e : a + n ≡ w.address = omega (arith, w.high) in
           rw (e, w.absent)
-      go (inr i) ih = rw (ih i, and_false)
+      go (inr i) ih = rw (ih i, and-false)
 
   pub not_all_absent : (n : ℕ) → all_present f a n ≡ false → AbsentIn f a n
   unfolding all_present

@@ -1,12 +1,12 @@
 -- The tests on tags, states and regions, answer by answer. Assumes nothing.
 use Prim.Native.Nat.{ℕ, ◌+◌, ◌-◌, ◌/◌, ◌%◌, ◌≤◌, ◌<◌}
 use mathlib.Core.Path.{◌≡◌, refl, sym, ap, ◌∙◌}
-use mathlib.Core.Bool.{Bool, true, false, not, ◌&&◌, and_false}
+use mathlib.Core.Bool.{Bool, true, false, not, ◌&&◌, and-false}
 use mathlib.Core.Logic.{◌⊎◌, inl, inr}
 use native.Mathlib.Omega.{arith}
 use native.Mathlib.Nat.{div-eq_of_lt}
 use lib.Dec.{leb, ltb, eqb}
-use borrow.Author.Tests.{lt-ltb, le-ltb, le-leb, lt-leb, eq-eqb, ne_eqb, eqb_true}
+use borrow.Author.Tests.{lt-ltb, le-ltb, le-leb, lt-leb, eq-eqb, ne_eqb, eqb-true}
 use Rattle.address.proofs.Tests.{le_or_lt}
 use Rattle.regions.specs.declared.Tag.{Tag}
 use Rattle.regions.specs.declared.Region.{Region}
@@ -57,7 +57,7 @@ is_present v t u b e q = rw e q
 module _ (c : ℕ) (v : State) (r : Region) where
   pub fits_empty : r.size.0 ≡ 0 → false ≡ fits c v r
   unfolding fits
-  fits_empty e = simp (le-ltb 0 r.size.0 (omega arith), and_false)
+  fits_empty e = simp (le-ltb 0 r.size.0 (omega arith), and-false)
 
   pub fits_below : r.base.0 < c → false ≡ fits c v r
   unfolding fits
@@ -106,7 +106,7 @@ module _ (w f : ℕ) (b : Bool) (q : b ≡ has w f) where
       go (inl h) = h
       go (inr h) =
           let z : f / w ≡ 0 = div-eq_of_lt h in
-          let y : 0 % 2 ≡ 1 = ap (λ (n : ℕ). n % 2) (sym z) ∙ eqb_true (f / w % 2) 1 (sym q ∙ e) in
+          let y : 0 % 2 ≡ 1 = ap (λ (n : ℕ). n % 2) (sym z) ∙ eqb-true (f / w % 2) 1 (sym q ∙ e) in
           absurd (omega arith)
 
 module _ (w : ℕ) where

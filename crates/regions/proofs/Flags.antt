@@ -7,7 +7,7 @@ use mathlib.Core.Logic.{◌⊎◌, inl, inr}
 use native.Mathlib.Omega.{arith}
 use native.Mathlib.Nat.{add-mul-div_right, one-mul, sub-add_cancel}
 use lib.Dec.{leb, eqb}
-use borrow.Author.Tests.{eq-eqb, ne_eqb, le-leb, leb-true, eqb_true, eqb-false, not-true}
+use borrow.Author.Tests.{eq-eqb, ne_eqb, le-leb, leb-true, eqb-true, eqb-false, not-true}
 use Rattle.address.proofs.Tests.{both}
 use Rattle.regions.specs.Changes.{has, one_flag, set_flag, clear_flag}
 use Rattle.regions.specs.Flags.{MarkingSentence}
@@ -39,7 +39,7 @@ module _ (w : ℕ) (some : 0 < w) where
   clear_again f = go (has w f) refl
     where
       go : (b : Bool) → has w f ≡ b → clear_flag w (cond b (f - w) f) ≡ cond b (f - w) f
-      go true e = let h = eqb_true (f / w % 2) 1 e in rw (ne_eqb ((f - w) / w % 2) 1 (before_odd (f / w) ((f - w) / w) (less f h) h))
+      go true e = let h = eqb-true (f / w % 2) 1 e in rw (ne_eqb ((f - w) / w % 2) 1 (before_odd (f / w) ((f - w) / w) (less f h) h))
       go false e = rw e
 
 -- ---- twice is once, whatever the weight: one of 0 changes nothing
@@ -72,9 +72,9 @@ one_of_three : (w : ℕ) → one_flag w ≡ true → (w ≡ 1) ⊎ ((w ≡ 2) �
 one_of_three w e = go (eqb w 1) (eqb w 2) refl refl e
   where
     go : (x y : Bool) → eqb w 1 ≡ x → eqb w 2 ≡ y → x || (y || eqb w 4) ≡ true → (w ≡ 1) ⊎ ((w ≡ 2) ⊎ (w ≡ 4))
-    go true y p q h = inl (eqb_true w 1 p)
-    go false true p q h = inr (inl (eqb_true w 2 q))
-    go false false p q h = inr (inr (eqb_true w 4 h))
+    go true y p q h = inl (eqb-true w 1 p)
+    go false true p q h = inr (inl (eqb-true w 2 q))
+    go false false p q h = inr (inr (eqb-true w 4 h))
 
 pub one_flag_bounds : (w : ℕ) → one_flag w ≡ true → (0 < w) × (w ≤ 4)
 one_flag_bounds w e = go (one_of_three w e)
@@ -95,7 +95,7 @@ every_holds p zero e f l = absurd (omega arith)
 every_holds p (suc n) e f l = go (every_holds p n (both (p n) (every p n) e).1 f) (eqb f n) refl
   where
     go : (f < n → p f ≡ true) → (t : Bool) → eqb f n ≡ t → p f ≡ true
-    go i true h = ap p (eqb_true f n h) ∙ (both (p n) (every p n) e).0
+    go i true h = ap p (eqb-true f n h) ∙ (both (p n) (every p n) e).0
     go i false h = let d = eqb-false f n h in i (omega arith)
 
 -- p passes for each of the three flags and each word of 0 to 7: 24 cases, computed

@@ -5,7 +5,7 @@ use mathlib.Core.Bool.{true, false}
 use mathlib.Core.List.{List}
 use native.Mathlib.Omega.{arith}
 use lib.Dec.{leb, eqb}
-use borrow.Author.Tests.{leb-true, eqb_true}
+use borrow.Author.Tests.{leb-true, eqb-true}
 use Rattle.address.proofs.Tests.{both, no}
 use Rattle.regions.specs.declared.Tag.{Tag}
 use Rattle.regions.specs.declared.Region.{Region}
@@ -45,7 +45,7 @@ legal_fits Memory t e =
     (omega (arith, leb-true t.flags 7 p.0), omega (arith, leb-true t.node 63 p.1))
 legal_fits Taken t e =
     let p = both (eqb t.flags 0) (eqb t.node 0) e in
-    (omega (arith, eqb_true t.flags 0 p.0), omega (arith, eqb_true t.node 0 p.1))
+    (omega (arith, eqb-true t.flags 0 p.0), omega (arith, eqb-true t.node 0 p.1))
 
 rises_fit : (k : Kind) {c : ℕ} {v : State} {xs : List Region} → Rises c v top xs → legal k xs ≡ true → AllFit xs
 unfolding legal

@@ -3,7 +3,7 @@ use Prim.Native.Nat.{ℕ, zero, suc, ◌+◌, ◌*◌, ◌/◌, ◌%◌, ◌^◌
 use mathlib.Core.Path.{◌≡◌, refl, sym, ap, ap₂, ◌∙◌}
 use mathlib.Core.List.{List, [], ◌∷◌, ◌++◌}
 use native.Mathlib.Nat.{mod-add-div, div-lt_iff_lt-mul, div-div-eq-div-mul, pow-suc, mod-lt, mul_comm, zero-add, add-suc, suc-add, add-zero, div-one, mul_assoc, le_of_suc-le-suc, not-suc-le-zero}
-use native.Mathlib.Numerals.{add_one}
+use native.Mathlib.Numerals.{add-one}
 use native.Mathlib.Omega.{arith}
 use mir.Syntax.{w8}
 use mir.Val.{Fits}
@@ -30,9 +30,9 @@ number_none l = refl
 number_drop : (k at : ℕ) (l : List ℕ) → number (suc k) (drop at l) ≡ get_or l at 0 + 256 * number k (drop (at + 1) l)
 unfolding number
 number_drop k zero [] = omega (arith, number_nil k)
-number_drop k (suc at) [] = rw add_one (omega (arith, number_nil k))
+number_drop k (suc at) [] = rw add-one (omega (arith, number_nil k))
 number_drop k zero (b ∷ l) = refl
-number_drop k (suc at) (b ∷ l) = number_drop k at l ∙ rw (add_one, add_one)
+number_drop k (suc at) (b ∷ l) = number_drop k at l ∙ rw (add-one, add-one)
 
 pub number_four : (at : ℕ) (l : List ℕ)
     → number 4 (drop at l) ≡ get_or l at 0 + get_or l (at + 1) 0 * 256 + get_or l (at + 2) 0 * 65536 + get_or l (at + 3) 0 * 16777216

@@ -5,9 +5,9 @@ use mathlib.Core.Bool.{Bool, true, false, cond}
 use mathlib.Core.List.{List, [], ◌∷◌}
 use native.Mathlib.Omega.{arith}
 use native.Mathlib.Nat.{add_assoc, add-zero, add-suc}
-use native.Mathlib.Numerals.{add_one}
+use native.Mathlib.Numerals.{add-one}
 use lib.Dec.{eqb}
-use borrow.Author.Tests.{eq-eqb, ne_eqb, eqb_true}
+use borrow.Author.Tests.{eq-eqb, ne_eqb, eqb-true}
 use Rattle.address.specs.declared.Address.{Address}
 use Rattle.address.specs.declared.CheckedAddress.{CheckedAddress}
 use Rattle.address.specs.declared.CheckedAddress.TheVariants.{At, Outside}
@@ -25,7 +25,7 @@ use Rattle.regions.specs.Meaning.{Meaning, region, end, at, same_tag, joins, joi
 pub same_true : (t u : Tag) → same_tag t u ≡ true → t ≡ u
 same_true t u e =
     let f = both (eqb t.flags u.flags) (eqb t.node u.node) e in
-    λ i. record { flags = eqb_true t.flags u.flags f.0 i; node = eqb_true t.node u.node f.1 i }
+    λ i. record { flags = eqb-true t.flags u.flags f.0 i; node = eqb-true t.node u.node f.1 i }
 
 pub same_self : (t : Tag) → same_tag t t ≡ true
 same_self t = and (eq-eqb t.flags t.flags refl) (eq-eqb t.node t.node refl)
@@ -34,7 +34,7 @@ same_self t = and (eq-eqb t.flags t.flags refl) (eq-eqb t.node t.node refl)
 pub joins_true : (r : Region) (c : ℕ) (t : Tag) → joins r c t ≡ true → (end r ≡ c) × (r.tag ≡ t)
 joins_true r c t e =
     let f = both (eqb (end r) c) (same_tag r.tag t) e in
-    (eqb_true (end r) c f.0, same_true r.tag t f.1)
+    (eqb-true (end r) c f.0, same_true r.tag t f.1)
 
 joins_yes : (r : Region) (c : ℕ) (t : Tag) → end r ≡ c → r.tag ≡ t → joins r c t ≡ true
 joins_yes r c t p q = and (eq-eqb (end r) c p) (rw q (same_self t))
@@ -105,7 +105,7 @@ push_one : (xs : List Region) (c s : ℕ) (v : State) → push (push xs c s v) (
 unfolding push
 push_one xs c s Absent = refl
 push_one xs c zero (Present t) = rw add-zero
-push_one xs c (suc s) (Present t) = join_join xs c (suc s) 1 t ∙ ap (λ (k : ℕ). join xs c k t) (add_one (suc s))
+push_one xs c (suc s) (Present t) = join_join xs c (suc s) 1 t ∙ ap (λ (k : ℕ). join xs c k t) (add-one (suc s))
 
 pub push_shortest : (f : Meaning) (c s : ℕ) (v : State) → ((a : ℕ) → c ≤ a → a < c + s → f a ≡ v) → shortest f (c + s) ≡ push (shortest f c) c s v
 unfolding shortest push

@@ -3,7 +3,7 @@ use Prim.Native.Nat.{ℕ, zero, suc, ◌+◌, ◌-◌, ◌*◌, ◌^◌, ◌≤�
 use mathlib.Core.Path.{◌≡◌, refl, sym, ap, ap₂, ◌∙◌}
 use mathlib.Core.List.{List, [], ◌∷◌, ◌++◌, append_assoc}
 use native.Mathlib.Nat.{add_assoc, mul-suc}
-use native.Mathlib.Numerals.{add_one}
+use native.Mathlib.Numerals.{add-one}
 use native.Mathlib.Omega.{arith}
 use lib.ListN.{length, take, drop, length-append, length-drop, take-append-drop}
 use lib.Seq.{sets, sets-eq, drop-drop, drop-append-le, drop_at, take-add, length-take-le}
@@ -94,7 +94,7 @@ snoc (suc n) l =
     ap (λ (rs : List Region). read_region l ∷ rs) (rw (drop-drop (24 * n) 24 l, e) at (snoc n (drop 24 l)))
 
 pub read_regions_snoc : (n : ℕ) (l : List ℕ) → read_regions (n + 1) l ≡ read_regions n l ++ (read_region (drop (24 * n) l) ∷ [])
-read_regions_snoc n l = rw add_one (snoc n l)
+read_regions_snoc n l = rw add-one (snoc n l)
 
 pub read_regions_length : (n : ℕ) (l : List ℕ) → length (read_regions n l) ≡ n
 unfolding read_regions

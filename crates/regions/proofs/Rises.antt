@@ -4,7 +4,7 @@ use mathlib.Core.Path.{◌≡◌, refl, ap}
 use mathlib.Core.Bool.{Bool, true, false, not, ◌&&◌}
 use mathlib.Core.List.{List, [], ◌∷◌}
 use lib.Dec.{leb, ltb, eqb}
-use borrow.Author.Tests.{ltb-true, lt-ltb, le-leb, leb-true, eq-eqb, eqb_true, not-true}
+use borrow.Author.Tests.{ltb-true, lt-ltb, le-leb, leb-true, eq-eqb, eqb-true, not-true}
 use Rattle.address.proofs.Tests.{both, and, zero_not_one}
 use Rattle.regions.specs.declared.Tag.{Tag}
 use Rattle.regions.specs.declared.Region.{Region}
@@ -65,7 +65,7 @@ unfolding fits
 Fits-fits c v r f = and (le-leb c r.base.0 f.low) (and (go (eqb c r.base.0 && is v r.tag) refl) (lt-ltb 0 r.size.0 f.some))
   where
     go : (b : Bool) → eqb c r.base.0 && is v r.tag ≡ b → not b ≡ true
-    go true e = let p = both (eqb c r.base.0) (is v r.tag) e in absurd (f.apart (eqb_true c r.base.0 p.0) (is_true v r.tag p.1))
+    go true e = let p = both (eqb c r.base.0) (is v r.tag) e in absurd (f.apart (eqb-true c r.base.0 p.0) (is_true v r.tag p.1))
     go false e = refl
 
 pub rises-Rises : (c : ℕ) (v : State) (n : ℕ) (xs : List Region) → rises c v n xs ≡ true → Rises c v n xs

@@ -6,7 +6,7 @@ use mathlib.Core.List.{List, [], ◌∷◌, ◌++◌, append-nil}
 use mathlib.Core.Logic.{◌⊎◌, inl, inr}
 use native.Mathlib.Omega.{arith}
 use native.Mathlib.Nat.{not-suc-le-zero}
-use native.Mathlib.Numerals.{add_one}
+use native.Mathlib.Numerals.{add-one}
 use lib.Dec.{leb, ltb}
 use lib.Seq.{append_snoc}
 use borrow.Author.Tests.{ltb-true, lt-ltb, le-ltb, le-leb, lt-leb}
@@ -158,7 +158,7 @@ push_rises xs b (suc s) (Present t) w = join_rises xs b (suc s) t w (omega arith
 pub canonical_shortest : (f : Meaning) (n : ℕ) → Canonical n (shortest f n)
 unfolding shortest
 canonical_shortest f zero = last 0 Absent 0 (omega arith)
-canonical_shortest f (suc n) = rw add_one at (push_rises (shortest f n) n 1 (f n) (canonical_shortest f n))
+canonical_shortest f (suc n) = rw add-one at (push_rises (shortest f n) n 1 (f n) (canonical_shortest f n))
 
 join_at : (xs : List Region) {c : ℕ} {v : State} (b s : ℕ) (t : Tag) (a : ℕ) → Rises c v b xs → b ≤ a → a < b + s → at (join xs b s t) a ≡ Present t
 unfolding join

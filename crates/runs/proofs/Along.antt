@@ -5,7 +5,7 @@ use mathlib.Core.Bool.{Bool, true, false, cond}
 use mathlib.Core.List.{List, [], ◌∷◌, ◌++◌}
 use mathlib.Core.Logic.{◌⊎◌, inl, inr}
 use native.Mathlib.Omega.{arith}
-use native.Mathlib.Numerals.{add_one}
+use native.Mathlib.Numerals.{add-one}
 use lib.ListN.{drop}
 use Rattle.address.proofs.Tests.{le_or_lt, zero_not_one}
 use Rattle.regions.specs.declared.Tag.{Tag}
@@ -140,4 +140,4 @@ unfolding backs read_regions falling onto
 backs_falling zero l = refl
 backs_falling (suc k) l =
     let r = read_region (drop (24 * k) l) in
-    sym (ap (onto []) (rw add_one at (read_regions_snoc k l)) ∙ onto_snoc [] (read_regions k l) r ∙ ap (λ (x : List Region). r ∷ x) (sym (backs_falling k l)))
+    sym (ap (onto []) (rw add-one at (read_regions_snoc k l)) ∙ onto_snoc [] (read_regions k l) r ∙ ap (λ (x : List Region). r ∷ x) (sym (backs_falling k l)))

@@ -4,7 +4,7 @@ use mathlib.Core.Path.{◌≡◌, refl, sym, ap, ap₂, ◌∙◌}
 use mathlib.Core.Bool.{Bool, true, false, cond, ◌&&◌, ◌||◌}
 use native.Mathlib.Omega.{arith}
 use lib.Dec.{leb, eqb}
-use borrow.Author.Tests.{eqb_true, ne_eqb, eq-eqb}
+use borrow.Author.Tests.{eqb-true, ne_eqb, eq-eqb}
 use Rattle.address.proofs.Tests.{both, zero_not_one}
 use Rattle.regions.specs.declared.Tag.{Tag}
 use Rattle.regions.specs.declared.State.{State}
@@ -76,7 +76,7 @@ free_same n s d g a =
 asked_node : (q : Query) → Named q → (t : Tag) → asks q t ≡ true → t.node ≡ q.node
 asked_node q f t e =
     let h = (both (eqb q.node 4294967295 || eqb t.node q.node) (granted q.wish t.flags) e).0 in
-    eqb_true t.node q.node (rw (ne_eqb q.node 4294967295 f) at h)
+    eqb-true t.node q.node (rw (ne_eqb q.node 4294967295 f) at h)
 
 -- so their free runs have the tags that it asks for at the same addresses
 module _ (q : Query) (named : Named q) (s d : Contents) (w : Canonical top s.memory) (w' : Canonical top d.memory) where

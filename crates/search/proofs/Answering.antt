@@ -1,14 +1,14 @@
 -- The checks of a search, and the answers of find and next free, one by one. Assumes nothing.
 use Prim.Native.Nat.{ℕ, ◌+◌, ◌-◌, ◌≤◌, ◌<◌}
 use mathlib.Core.Path.{◌≡◌, refl, sym, ap, ap₂, ◌∙◌}
-use mathlib.Core.Bool.{Bool, true, false, cond, not, and_true, and_false}
+use mathlib.Core.Bool.{Bool, true, false, cond, not, and-true, and-false}
 use mathlib.Core.List.{List, [], ◌++◌, append-nil}
 use mathlib.Core.Option.{Option, none, some}
 use native.Mathlib.Omega.{arith}
 use lib.Dec.{eqb, lit<}
 use lib.ListN.{length, take, drop, replicate, length-append}
 use lib.Seq.{sets, sets-eq, drop_at, drop-length}
-use borrow.Author.Tests.{eq-eqb, ne_eqb, le-leb, lt-leb, eqb_true, eqb-false, not-true, not-false}
+use borrow.Author.Tests.{eq-eqb, ne_eqb, le-leb, lt-leb, eqb-true, eqb-false, not-true, not-false}
 use Rattle.address.proofs.Tests.{zero_not_one}
 use Rattle.address.specs.Numbers.{power_of_two}
 use Rattle.address.specs.declared.Address.{Address}
@@ -36,13 +36,13 @@ use Rattle.seek.proofs.Found.{eligible_below, eligible_vacant, found_eligible}
 
 module _ (node wish : ℕ) where
   pub ask_wish : 3 < wish → false ≡ askable node wish
-  ask_wish w = rw (lt-leb wish 3 w, and_false)
+  ask_wish w = rw (lt-leb wish 3 w, and-false)
 
   pub ask_node : wish ≤ 3 → node ≤ 63 → true ≡ askable node wish
   ask_node w h = rw (le-leb wish 3 w, le-leb node 63 h)
 
   pub ask_any : wish ≤ 3 → 63 < node → eqb node 4294967295 ≡ askable node wish
-  ask_any w h = rw (le-leb wish 3 w, lt-leb node 63 h, and_true)
+  ask_any w h = rw (le-leb wish 3 w, lt-leb node 63 h, and-true)
 
 module _ (q : Query) (k : Bool) (y : k ≡ askable q.node q.wish) where
   pub refused_ask : not k ≡ true → 2 ≡ refusal q
@@ -127,7 +127,7 @@ module _ (k : ℕ) (b s : List ℕ) where
     passed_on f = go (eqb (length s) 16) refl e
       where
         go : (t : Bool) → eqb (length s) 16 ≡ t → answer n b z ≡ cond t (refuse k b) (answer 8 b s) → (length s ≡ 16) × ((k ≡ 0) × (z ≡ replicate 16 0))
-        go true l h = (eqb_true (length s) 16 l, (sym (ap (λ (y : Answer). y.number) h) ∙ f, ap (λ (y : Answer). y.slip) h))
+        go true l h = (eqb-true (length s) 16 l, (sym (ap (λ (y : Answer). y.number) h) ∙ f, ap (λ (y : Answer). y.slip) h))
         go false l h = absurd (omega (arith, ap (λ (y : Answer). y.number) h))
 
     pub goes_on : n ≡ 0 → (a : Answer) → a ≡ asking k b s a

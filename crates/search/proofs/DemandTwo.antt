@@ -8,7 +8,7 @@ use mathlib.Core.Logic.{◌⊎◌, inl, inr}
 use native.Mathlib.Omega.{arith}
 use lib.Dec.{leb, eqb}
 use lib.ListN.{length}
-use borrow.Author.Tests.{eqb_true, eqb-false}
+use borrow.Author.Tests.{eqb-true, eqb-false}
 use Rattle.address.specs.Numbers.{power_of_two}
 use Rattle.address.proofs.Tests.{clash, le_or_lt}
 use Rattle.address.specs.declared.Address.{Address}
@@ -66,7 +66,7 @@ module _ (n : ℕ) (b slip : List ℕ) (a : Answer) where
     where
       go : (w : Bool) → eqb (length slip) 16 ≡ w → (t : Bool) → eqb n 0 ≡ t → (m ≡ 0) ⊎ ((4 < m) × (m < 8))
           → (cond w (cond t a (refuse n b)) (answer 8 b slip)).number ≡ m → Passed n slip
-      go true i true j k e = record { of_16 = eqb_true (length slip) 16 i; fine = eqb_true n 0 j }
+      go true i true j k e = record { of_16 = eqb-true (length slip) 16 i; fine = eqb-true n 0 j }
       go true i false j (inl k) e = absurd (eqb-false n 0 j (e ∙ k))
       go true i false j (inr k) e = absurd (omega (arith, k.0))
       go false i t j (inl k) e = absurd (omega arith)

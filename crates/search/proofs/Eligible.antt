@@ -5,7 +5,7 @@ use mathlib.Core.Bool.{Bool, true, false, cond}
 use mathlib.Core.Logic.{◌⊎◌, inl, inr}
 use native.Mathlib.Omega.{arith}
 use lib.Dec.{leb, eqb}
-use borrow.Author.Tests.{leb-true, le-leb, eqb_true, eqb-false}
+use borrow.Author.Tests.{leb-true, le-leb, eqb-true, eqb-false}
 use Rattle.address.proofs.Tests.{both, and, le_or_lt, zero_not_one}
 use Rattle.regions.specs.declared.Tag.{Tag}
 use Rattle.regions.specs.declared.State.TheVariants.{Absent, Present}
@@ -47,7 +47,7 @@ module _ (s : Contents) (q : Query) (pos : 0 < q.size.0) (a : ℕ) where
       go true z l =
           let n = (rw z at l).end in
           let m = l.start in
-          record { aligned = l.aligned; from_start = omega arith; from_4096 = omega arith; by_limit = omega arith; by_end = inl (eqb_true q.end.0 0 z); one_tag = one l.run }
+          record { aligned = l.aligned; from_start = omega arith; from_4096 = omega arith; by_limit = omega arith; by_end = inl (eqb-true q.end.0 0 z); one_tag = one l.run }
       go false z l =
           let n = (rw z at l).end in
           let m = l.start in

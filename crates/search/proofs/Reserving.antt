@@ -7,7 +7,7 @@ use mathlib.Core.Option.{Option, none, some}
 use native.Mathlib.Omega.{arith}
 use lib.Dec.{eqb}
 use lib.ListN.{length}
-use borrow.Author.Tests.{eqb_true, eqb-false}
+use borrow.Author.Tests.{eqb-true, eqb-false}
 use Rattle.regions.specs.declared.Kind.TheVariants.{Taken}
 use Rattle.regions.specs.declared.Change.TheVariants.{Fill}
 use Rattle.regions.specs.Meaning.{top}
@@ -43,7 +43,7 @@ reserved_then : (b : List ℕ) (a end : ℕ) (o : Outcome) → ((o.number ≡ 0 
 reserved_then b a end o k = go (eqb o.number 0) refl
   where
     go : (t : Bool) → eqb o.number 0 ≡ t → Then (answer 0 b (slip_of a end)) (cond t (answer 0 o.block (slip_of a end)) (refuse o.number b)) o
-    go true e = record { refused = λ d. absurd (d refl); number = λ z. sym (eqb_true o.number 0 e); block = λ z. refl; slip = λ z. refl }
+    go true e = record { refused = λ d. absurd (d refl); number = λ z. sym (eqb-true o.number 0 e); block = λ z. refl; slip = λ z. refl }
     go false e =
         let d = eqb-false o.number 0 e in
         record { refused = λ h. absurd (h refl); number = λ z. refl; block = λ z. sym (k d); slip = λ z. absurd (d z) }
@@ -81,7 +81,7 @@ reserve_sentence L q b slip =
     there : (x : ℕ) → eqb n 0 ≡ true → x < top → command_outcome L (command Reserve (number 8 (slip_of x (end x))) q.size.0) b ≡ taking L q b x
     there x e l =
         ap (λ (y : ℕ). command_outcome L (command Reserve y q.size.0) b) (slip_first x (end x) l)
-        ∙ reserve_is L q b (number_ready L b q (eqb_true n 0 e)).0.0 x
+        ∙ reserve_is L q b (number_ready L b q (eqb-true n 0 e)).0.0 x
 
     go : (w t : Bool) → eqb n 0 ≡ t → (o : Option ℕ) → Gives (eligible (window (contents L b).settings.limit.0 q) (runs_of (contents L b))) (Beyond (contents L b).settings) top o
         → Then (finds w t o) (takes w t o) (command_outcome L (command Reserve (number 8 (finds w t o).slip) q.size.0) b)

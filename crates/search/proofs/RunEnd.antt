@@ -8,7 +8,7 @@ use mathlib.Core.Option.{Option, none, some}
 use native.Mathlib.Omega.{arith}
 use lib.Dec.{leb, eqb}
 use lib.ListN.{drop}
-use borrow.Author.Tests.{eqb_true, eqb-false}
+use borrow.Author.Tests.{eqb-true, eqb-false}
 use Rattle.address.proofs.Tests.{both, le_or_lt}
 use Rattle.regions.specs.declared.Tag.{Tag}
 use Rattle.regions.specs.declared.Run.{Run}
@@ -111,7 +111,7 @@ allocate_run_sentence L q b slip e = go (eqb (find L q b slip).number 0) refl
     both_say = reserve_sentence L q b slip
 
     go : (t : Bool) → eqb (find L q b slip).number 0 ≡ t → NamesRun (contents L b) (asks q) q.size.0 (allocate L q b slip).slip
-    go true f = subst (NamesRun (contents L b) (asks q) q.size.0) (sym (both_say.written e)) (find_run_sentence L q b slip (eqb_true (find L q b slip).number 0 f))
+    go true f = subst (NamesRun (contents L b) (asks q) q.size.0) (sym (both_say.written e)) (find_run_sentence L q b slip (eqb-true (find L q b slip).number 0 f))
     go false f =
         let d = eqb-false (find L q b slip).number 0 f in
         absurd (d (sym (ap (λ (a : Answer). a.number) (both_say.refused d)) ∙ e))

@@ -5,7 +5,7 @@ use mathlib.Core.Bool.{Bool, true, false, cond}
 use mathlib.Core.List.{List}
 use lib.Dec.{leb, eqb}
 use lib.ListN.{length}
-use borrow.Author.Tests.{eqb_true}
+use borrow.Author.Tests.{eqb-true}
 use Rattle.regions.specs.declared.Kind.TheVariants.{Taken}
 use Rattle.regions.specs.declared.Region.{Region}
 use Rattle.block.specs.Block.{current, capacity, with_list, block_bytes, contents, good}
@@ -24,7 +24,7 @@ pub asking_same : (n : ℕ) (b c slip : List ℕ) (x y : Answer) → (n ≡ 0 �
 asking_same n b c slip x y s = go (eqb (length slip) 16) (eqb n 0) refl
   where
     go : (w t : Bool) → eqb n 0 ≡ t → SameAnswer (cond w (cond t x (refuse n b)) (answer 8 b slip)) (cond w (cond t y (refuse n c)) (answer 8 c slip))
-    go true true e = s (eqb_true n 0 e)
+    go true true e = s (eqb-true n 0 e)
     go true false e = record { number = refl; slip = refl }
     go false t e = record { number = refl; slip = refl }
 

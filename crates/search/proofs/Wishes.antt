@@ -2,13 +2,13 @@
 -- nothing.
 use Prim.Native.Nat.{ℕ, ◌+◌, ◌≤◌, ◌<◌}
 use mathlib.Core.Path.{◌≡◌, refl, sym, ap, subst, ◌∙◌}
-use mathlib.Core.Bool.{Bool, true, false, cond, not, ◌&&◌, ◌||◌, and_false}
+use mathlib.Core.Bool.{Bool, true, false, cond, not, ◌&&◌, ◌||◌, and-false}
 use mathlib.Core.List.{List}
 use mathlib.Core.Logic.{inl, inr}
 use native.Mathlib.Omega.{arith}
 use lib.Dec.{leb, eqb}
 use lib.ListN.{length}
-use borrow.Author.Tests.{lt-leb, leb-false, eq-eqb, ne_eqb, eqb_true, eqb-false}
+use borrow.Author.Tests.{lt-leb, leb-false, eq-eqb, ne_eqb, eqb-true, eqb-false}
 use Rattle.address.proofs.Tests.{both, and, clash, zero_not_one}
 use Rattle.address.specs.Numbers.{power_of_two}
 use Rattle.regions.specs.declared.Tag.{Tag}
@@ -111,7 +111,7 @@ bad_ask node wish e = go (leb node 63) (eqb node 4294967295) (leb wish 3) refl r
 
 ask_bad : (node wish : ℕ) → BadAsk node wish → askable node wish ≡ false
 ask_bad node wish (inl h) = rw (lt-leb node 63 h.0, ne_eqb node 4294967295 h.1)
-ask_bad node wish (inr h) = rw (lt-leb wish 3 h, and_false)
+ask_bad node wish (inr h) = rw (lt-leb wish 3 h, and-false)
 
 -- where the checks have the number n, which is 2 exactly when the block is good and the node or the wish bad, and what follows is never 2
 module _ (L : Layout) (node wish : ℕ) (b slip : List ℕ) (n : ℕ) (a : Answer) where
@@ -127,7 +127,7 @@ module _ (L : Layout) (node wish : ℕ) (b slip : List ℕ) (n : ℕ) (a : Answe
     where
       two : (x y : Bool) → eqb (length slip) 16 ≡ x → eqb n 0 ≡ y → (asking n b slip a).number ≡ 2 → (length slip ≡ 16) × (n ≡ 2)
       two true true p q e = absurd (not-then (rw (p, q) at e))
-      two true false p q e = (eqb_true (length slip) 16 p, rw (p, q) at e)
+      two true false p q e = (eqb-true (length slip) 16 p, rw (p, q) at e)
       two false y p q e = let z : ◌≡◌ {A = ℕ} 8 2 = rw p at e in absurd (omega (arith, z))
 
 -- the checks of find and allocate, and of next free

@@ -6,7 +6,7 @@ use mathlib.Core.Option.{Option, none, some}
 use mathlib.Core.Logic.{◌⊎◌, inl, inr}
 use native.Mathlib.Omega.{arith}
 use lib.Dec.{leb, eqb}
-use borrow.Author.Tests.{leb-true, le-leb, eqb_true, eqb-false}
+use borrow.Author.Tests.{leb-true, le-leb, eqb-true, eqb-false}
 use Rattle.address.proofs.Tests.{both, and, no, clash, zero_not_one}
 use Rattle.regions.specs.declared.Tag.{Tag}
 use Rattle.regions.specs.declared.State.{State}
@@ -100,7 +100,7 @@ found_gives s q = go (eqb s.settings.direction 1) refl
     above d y x (inr e) = e.1
 
     go : (t : Bool) → eqb s.settings.direction 1 ≡ t → Gives test (Beyond s.settings) top (cond t (bottom_up image test) (highest test top))
-    go true e = fewer test (Sooner image) (Beyond s.settings) (up (eqb_true s.settings.direction 1 e)) top (bottom_up image test) (bottom_up_gives image test)
+    go true e = fewer test (Sooner image) (Beyond s.settings) (up (eqb-true s.settings.direction 1 e)) top (bottom_up image test) (bottom_up_gives image test)
     go false e = fewer test (λ y x. x < y) (Beyond s.settings) (above (eqb-false s.settings.direction 1 e)) top (highest test top) (highest_gives test top)
 
 -- what it gives passes

@@ -1,7 +1,7 @@
 -- A command answers 2 exactly when the block is good and what it names is not legal. Assumes nothing.
 use Prim.Native.Nat.{ℕ}
 use mathlib.Core.Path.{◌≡◌, refl}
-use mathlib.Core.Bool.{Bool, true, false, ◌&&◌, and_false}
+use mathlib.Core.Bool.{Bool, true, false, ◌&&◌, and-false}
 use mathlib.Core.Logic.{inl, inr}
 use native.Mathlib.Omega.{arith}
 use lib.Dec.{leb}
@@ -43,7 +43,7 @@ one_not w n = rw (ne_eqb w 1 n.0, ne_eqb w 2 n.1.0, ne_eqb w 4 n.1.1)
 bad_is : (v : Verb) → BadTag v → legal_verb v ≡ false
 unfolding legal_tag
 bad_is (Add t) (inl h) = rw (lt-leb t.flags 7 h)
-bad_is (Add t) (inr h) = rw (lt-leb t.node 63 h, and_false)
+bad_is (Add t) (inr h) = rw (lt-leb t.node 63 h, and-false)
 bad_is Remove n = absurd n
 bad_is (Mark w) n = one_not w n
 bad_is (Unmark w) n = one_not w n

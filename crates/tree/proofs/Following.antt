@@ -7,7 +7,7 @@ use native.Mathlib.Omega.{arith}
 use lib.Dec.{ltb, eqb}
 use lib.ListN.{length, drop, take, length-drop, length-take, drop_of_length-le}
 use lib.Seq.{drop-drop}
-use borrow.Author.Tests.{lt-ltb, le-ltb, ne_eqb, eqb_true, eqb-false}
+use borrow.Author.Tests.{lt-ltb, le-ltb, ne_eqb, eqb-true, eqb-false}
 use Rattle.tree.specs.Tokens.{Token, begin, end, property, nop, stop, broken, token, size, tokens_up_to, tokens}
 use Rattle.tree.specs.Form.{follows}
 use Rattle.tree.specs.Content as c
@@ -155,7 +155,7 @@ module _ (names : ℕ) (l : List ℕ) (at : ℕ) (h : at < length l) (r : Step) 
   places_next x e = go (eqb r.next (at + size x)) refl
     where
       go : (b : Bool) → eqb r.next (at + size x) ≡ b → located (at + size x) (tokens names (drop r.next l)) ≡ located r.next (tokens names (drop r.next l))
-      go true q = rw (eqb_true r.next (at + size x) q) refl
+      go true q = rw (eqb-true r.next (at + size x) q) refl
       go false q =
           let d : length l - r.next ≡ length l - at - size x =
           sym (length-drop r.next l) ∙ ap (λ (y : List ℕ). length y) s.rest ∙ rw e (length-drop (size x) (drop at l) ∙ rw (length-drop at l) refl) in

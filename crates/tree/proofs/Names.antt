@@ -3,7 +3,7 @@ use Prim.Native.Nat.{ℕ, zero, suc, ◌+◌, ◌-◌, ◌≤◌, ◌<◌}
 use mathlib.Core.Path.{◌≡◌, refl, sym, ap, ◌∙◌}
 use mathlib.Core.Bool.{Bool, true, false, cond}
 use mathlib.Core.List.{List, [], ◌∷◌}
-use native.Mathlib.Numerals.{add_one}
+use native.Mathlib.Numerals.{add-one}
 use native.Mathlib.Omega.{arith}
 use lib.Dec.{ltb, leb-suc-suc}
 use lib.ListN.{length, drop, take, get_or, length-drop, drop_of_length-le}
@@ -27,7 +27,7 @@ unfolding to_zero
 zero_miss [] i h e = omega arith
 zero_miss (zero ∷ l) zero h e = absurd (e refl)
 zero_miss (suc b ∷ l) zero h e = refl
-zero_miss (b ∷ l) (suc i) h e = rw add_one (zero_miss l i (omega arith) e ∙ rw add_one)
+zero_miss (b ∷ l) (suc i) h e = rw add-one (zero_miss l i (omega arith) e ∙ rw add-one)
 
 zero_none : (l : List ℕ) (i : ℕ) → length l ≤ i → length (to_zero (drop i l)) ≡ 0
 unfolding to_zero
@@ -85,7 +85,7 @@ names_to [] i h e z = absurd (omega arith)
 names_to (zero ∷ l) zero h e z = rw (ended_zero l, none_named l z) refl
 names_to (suc b ∷ l) zero h e z = absurd (omega arith)
 names_to (b ∷ l) (suc i) h e z =
-    let y : zero_ended (drop (i + 1) l) ≡ false = rw add_one (rw add_one at z) in
+    let y : zero_ended (drop (i + 1) l) ≡ false = rw add-one (rw add-one at z) in
     let q : suc i + 1 ≡ suc (i + 1) = omega arith in
     q ∙ rw (ended_before (b ∷ l) (suc i) h e) (ap suc (names_to l i (omega arith) e y))
 

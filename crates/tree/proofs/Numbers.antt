@@ -3,7 +3,7 @@ use Prim.Native.Nat.{ℕ, zero, suc, ◌+◌, ◌*◌}
 use mathlib.Core.Path.{◌≡◌, refl, sym, ap, ◌∙◌}
 use mathlib.Core.List.{List, [], ◌∷◌}
 use native.Mathlib.Nat.{suc-add}
-use native.Mathlib.Numerals.{add_one}
+use native.Mathlib.Numerals.{add-one}
 use native.Mathlib.Omega.{arith}
 use lib.ListN.{drop, take, get_or}
 use lib.Seq.{drop-drop, drop-nil}
@@ -14,9 +14,9 @@ use Rattle.tree.specs.Words.{big, word}
 big_next : (v k at : ℕ) (l : List ℕ) → big v (suc k) (drop at l) ≡ big (256 * v + get_or l at 0) k (drop (at + 1) l)
 unfolding big
 big_next v k zero [] = let e : 256 * v ≡ 256 * v + 0 = omega arith in ap (λ (x : ℕ). big x k []) e
-big_next v k (suc at) [] = let e : 256 * v ≡ 256 * v + 0 = omega arith in rw add_one (ap (λ (x : ℕ). big x k []) e)
+big_next v k (suc at) [] = let e : 256 * v ≡ 256 * v + 0 = omega arith in rw add-one (ap (λ (x : ℕ). big x k []) e)
 big_next v k zero (b ∷ l) = refl
-big_next v k (suc at) (b ∷ l) = big_next v k at l ∙ rw (add_one, add_one)
+big_next v k (suc at) (b ∷ l) = big_next v k at l ∙ rw (add-one, add-one)
 
 big_none : (v : ℕ) (l : List ℕ) → big v 0 l ≡ v
 unfolding big

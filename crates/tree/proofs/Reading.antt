@@ -6,7 +6,7 @@ use mathlib.Core.List.{List}
 use native.Mathlib.Omega.{arith}
 use lib.Dec.{eqb}
 use lib.ListN.{length, drop}
-use borrow.Author.Tests.{ne_eqb, eqb_true, eqb-false}
+use borrow.Author.Tests.{ne_eqb, eqb-true, eqb-false}
 use Rattle.tree.specs.Tokens.{Token, token, tokens}
 use Rattle.tree.specs.Form.{named, formed}
 use Rattle.tree.specs.Content.{Content, first, in_root}
@@ -189,7 +189,7 @@ module _ (names : ℕ) (l : List ℕ) (at i : ℕ) (inv : rest_at names l 0 true
     stop_stop e = sym (inv ∙ rest_stop names l i h r s e ∙ go (eqb r.next (length l)) refl)
       where
         go : (b : Bool) → eqb r.next (length l) ≡ b → eqb (length (tokens names (drop r.next l))) 0 ≡ b
-        go true p = rw (tokens_none names l r.next (omega (arith, eqb_true r.next (length l) p))) refl
+        go true p = rw (tokens_none names l r.next (omega (arith, eqb-true r.next (length l) p))) refl
         go false p =
             let more = tokens_some names l r.next (omega (arith, s.within, eqb-false r.next (length l) p)) in
             ne_eqb (length (tokens names (drop r.next l))) 0 more

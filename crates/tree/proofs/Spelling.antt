@@ -3,12 +3,12 @@ use Prim.Native.Nat.{ℕ, zero, suc, ◌+◌, ◌-◌, ◌≤◌, ◌<◌}
 use mathlib.Core.Path.{◌≡◌, refl, sym, ap, ◌∙◌, subst}
 use mathlib.Core.Bool.{Bool, true, false, ◌&&◌, ◌||◌, not}
 use mathlib.Core.List.{List, [], ◌∷◌, ◌++◌, append_assoc}
-use native.Mathlib.Numerals.{add_one}
+use native.Mathlib.Numerals.{add-one}
 use native.Mathlib.Omega.{arith}
 use lib.Dec.{ltb, eqb}
 use lib.ListN.{length, drop, take, length-append, length-drop, take-append-drop}
 use lib.Seq.{drop_at, take_at, drop-drop, length-take-le}
-use borrow.Author.Tests.{lt-ltb, le-leb, ltb-true, eqb_true}
+use borrow.Author.Tests.{lt-ltb, le-leb, ltb-true, eqb-true}
 use Rattle.tree.specs.Words.{word}
 use Rattle.tree.specs.Tokens.{to_zero, zero_ended, Token, begin, end, property, nop, stop, broken, begin_of, property_of, plain_of, token_of, token}
 use Rattle.tree.specs.Tokens.{padded, size, tokens_up_to, tokens}
@@ -97,7 +97,7 @@ zero_split : (l : List ℕ) → length (to_zero l) < length l → l ≡ to_zero 
 unfolding to_zero
 zero_split [] h = absurd (omega arith)
 zero_split (zero ∷ l) h = refl
-zero_split (suc b ∷ l) h = ap (λ (x : List ℕ). suc b ∷ x) (zero_split l (omega arith) ∙ simp add_one)
+zero_split (suc b ∷ l) h = ap (λ (x : List ℕ). suc b ∷ x) (zero_split l (omega arith) ∙ simp add-one)
 
 to_zero_twice : (l : List ℕ) → to_zero (to_zero l) ≡ to_zero l
 unfolding to_zero
@@ -205,7 +205,7 @@ module _
     unfolding FirstSpelt follows size
     first_stop h w e =
         let p = both (eqb n 0 && late) (eqb (length (rest strings l stop)) 0) e in
-        let behind = none_spelt strings (drop 4 l) (eqb_true (length (rest strings l stop)) 0 p.1) in
+        let behind = none_spelt strings (drop 4 l) (eqb-true (length (rest strings l stop)) 0 p.1) in
         subst (λ (x : List ℕ). Spelt strings (stop ∷ rest strings l stop) x) (take-append-drop 4 l)
         (stops (take 4 l) (length-take-le 4 l h) (word_take l ∙ w) behind)
 

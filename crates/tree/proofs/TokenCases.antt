@@ -7,7 +7,7 @@ use native.Mathlib.Omega.{arith}
 use lib.Dec.{leb, ltb, eqb}
 use lib.ListN.{length, drop, take, length-drop}
 use lib.Seq.{drop-drop, length-take-le}
-use borrow.Author.Tests.{leb-true, ltb-true, eqb_true}
+use borrow.Author.Tests.{leb-true, ltb-true, eqb-true}
 use Rattle.tree.specs.Words.{word}
 use Rattle.tree.specs.Tokens.{to_zero, zero_ended, Token, begin, end, property, nop, stop, broken, begin_of, property_of, plain_of, token_of, token}
 use Rattle.tree.specs.Steps.{shape}
@@ -51,7 +51,7 @@ module _
             of-property w (omega (arith, length-drop 4 l)) q.1
 
     by_number : (w : ℕ) (x y : Token) → (word l ≡ w → P x) → P y → P (cond (eqb (word l) w) x y)
-    by_number w x y f g = chosen P (eqb (word l) w) x y (λ e. f (eqb_true (word l) w e)) g
+    by_number w x y f g = chosen P (eqb (word l) w) x y (λ e. f (eqb-true (word l) w e)) g
 
     pub token_cases : P (token names l)
     unfolding token token_of plain_of

@@ -8,7 +8,7 @@ use lib.Dec.{ltb, eqb}
 use lib.ListN.{length, drop, take, replicate, length-replicate}
 use lib.Pow.{are_bytes}
 use lib.Seq.{take-length}
-use borrow.Author.Tests.{lt-ltb, ltb-true, eqb_true}
+use borrow.Author.Tests.{lt-ltb, ltb-true, eqb-true}
 use Rattle.tree.specs.Words.{big, word}
 use Rattle.tree.specs.Tokens.{to_zero, zero_ended, Token, begin, end, property, stop, padded}
 use Rattle.tree.specs.Content as c
@@ -118,7 +118,7 @@ content_written strings (node name inner x) ts e l =
     let q = both (writable strings inner) (writable strings x) p.1 in
     let behind = end_written strings (spelled x ++ ts) (content_written strings x ts q.1 l) in
     let all = content_written strings inner (end ∷ (spelled x ++ ts)) q.0 behind in
-    let z = to_zero_whole name (eqb_true (length (to_zero name)) (length name) n.0) in
+    let z = to_zero_whole name (eqb-true (length (to_zero name)) (length name) n.0) in
     rw append_assoc (begin_written strings (spelled inner ++ (end ∷ (spelled x ++ ts))) all name z n.1)
 
 without_spelled : (x : Content) → without_nops (spelled x) ≡ spelled x

@@ -2,7 +2,7 @@
 -- give what all of them give from the state passed. A turn copies the line at i out of the slice and calls `judge`. Assumes nothing.
 use mathlib.Core.Path.{◌≡◌, refl, sym, ◌∙◌, ap, subst, subst⁻¹}
 use Prim.Native.Nat.{ℕ, suc, ◌+◌, ◌-◌, ◌*◌, ◌<◌, ◌≤◌, ◌^◌, zero-le}
-use native.Mathlib.Numerals.{add_one, add-one-le, add-one-dec}
+use native.Mathlib.Numerals.{add-one, add-one-le, add-one-dec}
 use native.Mathlib.Omega.{arith}
 use mathlib.Core.WellFounded.InvImage
 use mathlib.Core.WellFounded.{WellFounded}
@@ -71,7 +71,7 @@ none = line_at [] 0
 
 -- what is left at i: the line there, and what is left after it
 left : (ys : List Line) (i : ℕ) → i < length ys → dropped i ys ≡ get_or ys i none ∷ dropped (i + 1) ys
-left ys i l = drop-cons ys i none l ∙ ap (λ (k : ℕ). get_or ys i none ∷ dropped k ys) (sym (add_one i))
+left ys i l = drop-cons ys i none l ∙ ap (λ (k : ℕ). get_or ys i none ∷ dropped k ys) (sym (add-one i))
 
 -- ---- the MIR
 -- what follows the first statement of a body

@@ -1,6 +1,6 @@
 -- `regions::bytes::put_u32` meets its contract.
 use Rattle.regions.specs.Bytes.{bytes}
-use native.Mathlib.Numerals.{add_one, add-two, add-three}
+use native.Mathlib.Numerals.{add-one, add-two, add-three}
 use lib.ListN.{length-set}
 use native.Mathlib.Omega.{arith}
 use borrow.Author.Rules.{rules}
@@ -45,7 +45,7 @@ same_length c = search rules
 
 returns : tie.Need-returns
 unfolding bytes
-returns c = simp (add_one, add-two, add-three)
+returns c = simp (add-one, add-two, add-three)
 
 pub put-u32-spec : {M : Type 1} → statement M
 put-u32-spec =

@@ -9,7 +9,7 @@ use lib.Dec.{eqb, lit<}
 use lib.Bits.{bit_and, and_mask}
 use lib.Pow.{pow_pos}
 use lib.Count.{ones, ones_step, ones-le}
-use borrow.Author.Tests.{eq-eqb, ne_eqb, eqb_true, eqb-false}
+use borrow.Author.Tests.{eq-eqb, ne_eqb, eqb-true, eqb-false}
 use Rattle.address.specs.Numbers.{power_below, power_of_two}
 use Rattle.address.proofs.Tests.{le_or_lt}
 
@@ -17,7 +17,7 @@ same : (a b c d : ℕ) → (a ≡ b → c ≡ d) → (c ≡ d → a ≡ b) → e
 same a b c d f g = go (eqb a b) refl
   where
     go : (t : Bool) → eqb a b ≡ t → t ≡ eqb c d
-    go true e = sym (eq-eqb c d (f (eqb_true a b e)))
+    go true e = sym (eq-eqb c d (f (eqb-true a b e)))
     go false e = sym (ne_eqb c d (λ h. eqb-false a b e (g h)))
 
 power_double : (k m : ℕ) → power_below (suc k) (2 * m) ≡ power_below k m
@@ -34,7 +34,7 @@ unfolding power_below
 power_odd zero m = go (eqb m 0) refl
   where
     go : (t : Bool) → eqb m 0 ≡ t → eqb (2 * m + 1) (2 ^ 0) || false ≡ t
-    go true e = let z = eqb_true m 0 e in let f : 2 * m + 1 ≡ 2 ^ 0 = omega arith in rw (eq-eqb (2 * m + 1) (2 ^ 0) f)
+    go true e = let z = eqb-true m 0 e in let f : 2 * m + 1 ≡ 2 ^ 0 = omega arith in rw (eq-eqb (2 * m + 1) (2 ^ 0) f)
     go false e =
         let z = eqb-false m 0 e in
         let f : 2 * m + 1 ≡ 2 ^ 0 → ⊥ = λ g. z (omega arith) in
@@ -85,7 +85,7 @@ power_is (suc k) n e = go (eqb n (2 ^ k)) refl e (power_is k n)
   where
     go : (t : Bool) → eqb n (2 ^ k) ≡ t → t || power_below k n ≡ true → (power_below k n ≡ true → (j : ℕ) × (j < k) × (n ≡ 2 ^ j))
         → (j : ℕ) × (j < suc k) × (n ≡ 2 ^ j)
-    go true f e ih = (k, omega arith, eqb_true n (2 ^ k) f)
+    go true f e ih = (k, omega arith, eqb-true n (2 ^ k) f)
     go false f e ih = let r = ih e in (r.0, omega (arith, r.1), r.2)
 
 pub power_of : (k j : ℕ) → j < k → power_below k (2 ^ j) ≡ true

@@ -1,4 +1,6 @@
 // Addresses and sizes: two types that cannot change places, with their sums and differences, rounding and the power-of-two test.
+#![tactic(auto)]
+
 ghost use Rattle.std.specs.Prelude.{◌≡◌, true, ◌+◌, ◌-◌, ◌%◌, ◌≤◌, ◌<◌, min, max};
 ghost use Rattle.address.specs.Numbers.{up as round_up, down as round_down, power_of_two, address, difference, size};
 

@@ -1,4 +1,6 @@
 // The block: a header of 80 bytes, the memory table, the taken table.
+#![tactic(auto)]
+
 ghost use Rattle.std.specs.Prelude.{◌≡◌, ◌+◌, ◌*◌, ◌<◌, ◌≤◌, length, take};
 ghost use Rattle.std.proofs.lemmas.List.Edits.{sets};
 ghost use Rattle.regions.specs.Bytes.{bytes};

@@ -1,3 +1,5 @@
 // A board's device tree, taken in through the commands on the tables.
+#![tactic(auto)]
+
 pub mod ranges;
 pub mod taking;

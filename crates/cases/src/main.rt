@@ -1,5 +1,7 @@
 // The worked cases of document 01, run on real blocks through the exported functions. Each call is written out with the number answered and, for a
 // search, the two numbers of its slip; a table is written as its count, its total and its records. `stdout` has the lines as document 01 gives them.
+#![tactic(auto)]
+
 use block::LENGTH;
 use libc::STDOUT_FILENO;
 use regions::bytes::{get_u32, get_u64};

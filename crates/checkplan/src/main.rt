@@ -1,5 +1,7 @@
 // Checks the placement plan in the file that its first argument names on the board in that of its second: a block, or else an E820 report, which is taken in
 // on a fresh one. It prints the number answered and the index beside it, in decimal, with one space between.
+#![tactic(auto)]
+
 mod text;
 
 ghost use Rattle.std.specs.Prelude.{◌≤◌};

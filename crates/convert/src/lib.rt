@@ -1,4 +1,6 @@
 // An edition 1 block's meaning, written as a block that the commands work on.
+#![tactic(auto)]
+
 ghost use Rattle.std.specs.Prelude.{◌≡◌, ◌*◌, ◌≤◌, length};
 ghost use Rattle.regions.specs.Bytes.{read_regions};
 ghost use Rattle.range.specs.Outcomes.{outcome};

@@ -1,4 +1,6 @@
 // What is asked of the free runs, what a search answers, and what fits one stretch of free addresses of one tag, cut to the window.
+#![tactic(auto)]
+
 ghost use Rattle.std.specs.Prelude.{◌≡◌, true};
 ghost use Rattle.address.specs.Numbers.{power_of_two};
 ghost use Rattle.fits.specs.Eligible.{asks};

@@ -1,4 +1,6 @@
 // A change over a range of a table: the finished shortest list is built in a scratch table.
+#![tactic(auto)]
+
 ghost use Rattle.std.specs.Prelude.{◌≡◌, true, [], ◌∷◌, ◌++◌, ◌+◌, ◌*◌, ◌-◌, ◌/◌, ◌^◌, ◌<◌, ◌≤◌, length};
 ghost use Rattle.regions.specs.Bytes.{read_regions};
 ghost use Rattle.regions.specs.Meaning.{region, end as end_of, joins, join, push};

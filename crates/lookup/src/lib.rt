@@ -1,5 +1,7 @@
 // What stands in the nodes of a tree: a property by its name, and the nodes in a node one by one. `strings` is the strings block, `names` how many of its
 // places begin a name that ends inside it, `s` the structure block.
+#![tactic(auto)]
+
 ghost use Rattle.std.specs.Prelude.{◌≡◌, true, false, ◌-◌, ◌<◌, ◌≤◌, length};
 ghost use Rattle.tree.specs.Steps.{rest_at, places_at};
 ghost use Rattle.lookup.specs.Values.{same, name_at, value_of};

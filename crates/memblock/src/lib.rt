@@ -1,5 +1,7 @@
 // The functions that boot code calls. Each takes numbers and lent bytes, answers document 01's number, and asks nothing of its caller. Its contract is
 // the equation with its line in the table of calls; that of lookup, which is lent no block, with its own.
+#![tactic(auto)]
+
 ghost use Rattle.std.specs.Prelude.{◌≡◌, []};
 ghost use Rattle.fits.specs.Eligible.{query};
 ghost use Rattle.search.specs.Answers.{answer, with_buffer};

@@ -1,5 +1,7 @@
 // A placement plan: lines that each propose an address, accepted and reserved all at once, or refused with the first line at fault. It is judged line by
 // line, each line passed by value with what was seen before it; `place_plan` does so over a lent slice of lines, `plan_numbers` over slices of numbers.
+#![tactic(auto)]
+
 ghost use Rattle.std.specs.Prelude.{◌≡◌, true, [], ◌+◌, ◌≤◌, ◌<◌, min, length, take};
 ghost use Rattle.regions.specs.Meaning.{at, shortest, top};
 ghost use Rattle.regions.specs.declared.Kind.TheVariants.{Taken};

@@ -1,5 +1,7 @@
 // The plan's two forms under C names, for tests alone: an archive of its own. Both take a plan's lines as slices of numbers beside each other, in the
 // request's order, as many as the shortest of them has, and answer number + 2^32 * index.
+#![tactic(auto)]
+
 ghost use Rattle.std.specs.Prelude.{◌≡◌, ◌/◌, ◌%◌, ◌≤◌, min, take};
 ghost use Rattle.block.specs.Block.{current};
 ghost use Rattle.plan.specs.Plan.{plan};

@@ -1,4 +1,6 @@
 // What the programs on files share: the files that the command line names, and what came of taking one in, printed.
+#![tactic(auto)]
+
 ghost use Rattle.std.specs.Prelude.{◌≡◌, true, ◌*◌, ◌≤◌, length};
 ghost use Rattle.io.specs.Counts.{IsPrefixLen};
 ghost use Rattle.block.specs.Block.{current, good};

@@ -1,4 +1,6 @@
 // One way to change a range of a table of a good block, over the change and the table.
+#![tactic(auto)]
+
 ghost use Rattle.std.specs.Prelude.{◌≡◌, true, ◌+◌, ◌*◌, ◌<◌, ◌≤◌, length};
 ghost use Rattle.regions.specs.declared.Kind.TheVariants.{Memory, Taken};
 ghost use Rattle.regions.specs.declared.Change.TheVariants.{Fill};

@@ -1,4 +1,6 @@
 // Regions and their tags, and the 24 bytes of a region in a table.
+#![tactic(auto)]
+
 ghost use Rattle.std.specs.Prelude.{◌≡◌, ◌<◌, ◌≤◌};
 ghost use Rattle.address.specs.Numbers.{address as checked_address};
 ghost use Rattle.regions.specs.Meaning.{end as end_of, joins as joins_at, same_tag};

@@ -1,5 +1,7 @@
 // Takes the E820 report in the file that its argument names in on a fresh block, and prints the number answered and every record of both tables: a
 // line each, in decimal, the fields in their order with one space between.
+#![tactic(auto)]
+
 use block::LENGTH;
 use memblock::{memblock_fresh, memblock_intake_e820};
 use program::{read_argument, say_answer};

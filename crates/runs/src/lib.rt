@@ -1,4 +1,6 @@
 // The walk over two tables, lent as parts of the block: memory records, and in each the gaps that the taken records leave.
+#![tactic(auto)]
+
 ghost use Rattle.std.specs.Prelude.{◌≡◌, ◌-◌, ◌≤◌, ◌<◌};
 ghost use Rattle.regions.specs.Meaning.{end as end_of};
 ghost use Rattle.regions.specs.Bytes.{read_regions};

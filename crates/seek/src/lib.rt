@@ -1,4 +1,6 @@
 // The search of a good block: its header says what to do, and its two tables are lent as parts of it.
+#![tactic(auto)]
+
 ghost use Rattle.std.specs.Prelude.{◌≡◌, true, ◌≤◌, length};
 ghost use Rattle.block.specs.Block.{current, contents, good};
 ghost use Rattle.fits.specs.Eligible.{eligible};

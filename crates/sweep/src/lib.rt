@@ -1,4 +1,6 @@
 // The free runs of two tables, lent as parts of the block, one after the other: each record is read once.
+#![tactic(auto)]
+
 ghost use Rattle.std.specs.Prelude.{◌≡◌, ◌≤◌};
 ghost use Rattle.sweep.specs.Steps.{Tables, Ahead, Advanced};
 

@@ -1,4 +1,6 @@
 // Takes the device tree in the file that its argument names in on a fresh block, and prints as `report` does.
+#![tactic(auto)]
+
 use block::LENGTH;
 use memblock::{memblock_fresh, memblock_intake_tree};
 use program::{read_argument, say_answer, say_error};

@@ -1,4 +1,6 @@
 // Trim: each memory record with its base rounded up and its end rounded down.
+#![tactic(auto)]
+
 ghost use Rattle.std.specs.Prelude.{◌≡◌, true, ◌+◌, ◌*◌, ◌<◌, ◌≤◌, ◌++◌, length, drop};
 ghost use Rattle.regions.specs.Meaning.{end as end_of, top};
 ghost use Rattle.address.specs.Numbers.{power_of_two};

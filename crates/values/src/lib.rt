@@ -1,5 +1,7 @@
 // The values of a board's tree, corrected by a service tree: which are as E8 asks. `ss` and `service` are the service tree's strings block and structure
 // block, none where there is no such tree; `strings` and `s` the board's. A node of the board is its way and the place `at` where what stands in it begins.
+#![tactic(auto)]
+
 ghost use Rattle.std.specs.Prelude.{◌≡◌, true, false, [], ◌∷◌, ◌+◌, ◌≤◌, ◌<◌, length, drop, take};
 ghost use Rattle.tree.specs.Steps.{rest_at, content_at, places_at};
 ghost use Rattle.lookup.specs.Values.{path};

@@ -5,22 +5,22 @@ ghost use Rattle.std.specs.Prelude.{◌≡◌, true, ◌+◌, ◌-◌, ◌%◌, 
 ghost use Rattle.address.specs.Numbers.{up as round_up, down as round_down, power_of_two, address, difference, size};
 
 // A place in memory, 0 to 2^64 - 1.
-#[derive(Drop)]
+#[derive(Clone, Copy)]
 pub struct Address(pub u64);
 
 // A number of addresses, 0 to 2^64 - 1.
-#[derive(Drop)]
+#[derive(Clone, Copy)]
 pub struct Size(pub u64);
 
 // A whole number as an address, where it is one.
-#[derive(Drop)]
+#[derive(Clone, Copy)]
 pub enum CheckedAddress {
     At(Address),
     Outside,
 }
 
 // A whole number as a size, where it is one.
-#[derive(Drop)]
+#[derive(Clone, Copy)]
 pub enum CheckedSize {
     Of(Size),
     Outside,

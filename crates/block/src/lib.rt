@@ -26,7 +26,7 @@ pub const FRONT: usize = 3152;
 pub const LENGTH_ONE: usize = 6224;
 
 // Which edition, and how many records each table has room for.
-#[derive(Drop)]
+#[derive(Clone, Copy)]
 pub struct Layout {
     pub edition: u32,
     pub memory: u32,
@@ -34,7 +34,7 @@ pub struct Layout {
 }
 
 // What a block is set to: searches end by the limit, and where the direction is 1 they go up from the image end (0: none) first.
-#[derive(Drop)]
+#[derive(Clone, Copy)]
 pub struct Settings {
     pub limit: Address,
     pub direction: u32,
@@ -42,7 +42,7 @@ pub struct Settings {
 }
 
 // What the header says beside the layout.
-#[derive(Drop)]
+#[derive(Clone, Copy)]
 pub struct Header {
     pub memory: Tally,
     pub taken: Tally,

@@ -18,7 +18,7 @@ use tree::words::{double_at, word_at};
 use values::{Got, Pair, Way, get};
 
 // How many cells of 4 bytes an address and a size have.
-#[derive(Drop)]
+#[derive(Clone, Copy)]
 pub struct Cells {
     pub address: usize,
     pub size: usize,

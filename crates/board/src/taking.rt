@@ -26,7 +26,7 @@ use tree::reader::{Root, root_of};
 use values::{Number, Pair, Way, cell_count, children_ok, has, is_just, number_of};
 
 // What a walk over the root's children takes in.
-#[derive(Drop)]
+#[derive(Clone, Copy)]
 pub enum Pass {
     Memory,
     Reserved,

@@ -17,14 +17,14 @@ use regions::bytes::{get_region, get_u64};
 use regions::{Change, Region, Tag};
 
 // Where a filled stretch begins or ends among the records, and at which address.
-#[derive(Drop)]
+#[derive(Clone, Copy)]
 pub struct Side {
     pub at: usize,
     pub bound: Address,
 }
 
 // Where a change fills a range that no record meets, and with which tag, if it does.
-#[derive(Drop)]
+#[derive(Clone, Copy)]
 pub enum Gap {
     At(usize, Tag),
     Nowhere,

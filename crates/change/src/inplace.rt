@@ -16,7 +16,7 @@ use records::table::{Tally, place, total_of};
 use regions::bytes::{get_region, get_u64};
 
 // A changed table's count and total, or that it has no room, or not every address that it must have.
-#[derive(Drop)]
+#[derive(Clone, Copy)]
 pub enum Changed {
     To(Tally),
     NoRoom,
@@ -24,14 +24,14 @@ pub enum Changed {
 }
 
 // What became of a try in a scratch table: the answer, or that it needs a larger one.
-#[derive(Drop)]
+#[derive(Clone, Copy)]
 pub enum Tried {
     Done(Changed),
     More,
 }
 
 // The records that a range meets or touches: from `first` up to, not including, `stop`.
-#[derive(Drop)]
+#[derive(Clone, Copy)]
 pub struct Met {
     pub first: usize,
     pub stop: usize,

@@ -10,14 +10,14 @@ use address::{Address, CheckedAddress, Size};
 use regions::{Region, Run, has};
 
 // Which way a walk goes: from the lowest address up, or from the highest down.
-#[derive(Drop)]
+#[derive(Clone, Copy)]
 pub enum Way {
     Up,
     Down,
 }
 
 // A size, an alignment, a window from `start` up to, not including, `end`, a node (0xFFFFFFFF: any) and a wish (1 allows hotplug memory, 2 demands mirror).
-#[derive(Drop)]
+#[derive(Clone, Copy)]
 pub struct Query {
     pub size: Size,
     pub align: Size,
@@ -28,7 +28,7 @@ pub struct Query {
 }
 
 // An address and the whole free run that it lies in.
-#[derive(Drop)]
+#[derive(Clone, Copy)]
 pub enum Place {
     Here(Address, Run),
     Nowhere,

@@ -13,7 +13,7 @@ use regions::bytes::{get_u32, get_u64};
 use tables::commands::{Verb, on_good, trim_on_good};
 
 // One range of the report.
-#[derive(Drop)]
+#[derive(Clone, Copy)]
 pub struct Entry {
     pub base: Address,
     pub size: Size,
@@ -21,7 +21,7 @@ pub struct Entry {
 }
 
 // What an entry becomes.
-#[derive(Drop)]
+#[derive(Clone, Copy)]
 pub enum Becomes {
     Added,
     PassedOver,

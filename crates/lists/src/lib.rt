@@ -15,14 +15,14 @@ use regions::bytes::{get_region, put_region};
 use regions::{Change, Region, State};
 
 // How many records a scratch table holds now, or that it has no room.
-#[derive(Drop)]
+#[derive(Clone, Copy)]
 pub enum Pushed {
     Count(usize),
     Full,
 }
 
 // A change over the addresses from `lo` up to, not including, `hi`.
-#[derive(Drop)]
+#[derive(Clone, Copy)]
 pub struct Edit {
     pub change: Change,
     pub lo: Address,

@@ -21,35 +21,35 @@ use sweep::{Sweep, Sweeping, advance, begin};
 const PAGES: u64 = 4503599627370496;
 
 // A piece: 2^order pages from `page` on.
-#[derive(Drop)]
+#[derive(Clone, Copy)]
 pub struct Piece {
     pub page: u64,
     pub order: u32,
 }
 
 // What a call tells: how many pieces were written, and the page where the next one begins, 2^52 if none is left.
-#[derive(Drop)]
+#[derive(Clone, Copy)]
 struct Told {
     count: u64,
     next: u64,
 }
 
 // The whole pages of a run, from `first` up to, not including, `last`.
-#[derive(Drop)]
+#[derive(Clone, Copy)]
 struct Span {
     first: u64,
     last: u64,
 }
 
 // An order, and how many pages a piece of it has.
-#[derive(Drop)]
+#[derive(Clone, Copy)]
 struct Scale {
     order: u32,
     size: u64,
 }
 
 // Where the walk stands: at `page`, the run at hand having these whole pages, and the sweep being behind that run.
-#[derive(Drop)]
+#[derive(Clone, Copy)]
 struct Stand {
     pages: Span,
     page: u64,
@@ -57,14 +57,14 @@ struct Stand {
 }
 
 // On in a run, or no run is left.
-#[derive(Drop)]
+#[derive(Clone, Copy)]
 enum Standing {
     At(Stand),
     Done,
 }
 
 // The piece that a page lies in: its first page, the first past it, and its order.
-#[derive(Drop)]
+#[derive(Clone, Copy)]
 struct Found {
     start: u64,
     past: u64,

@@ -31,14 +31,14 @@ use seek::eligible_in;
 const LINES: usize = 64;
 
 // What is asked of find, and the address proposed for it.
-#[derive(Drop)]
+#[derive(Clone, Copy)]
 pub struct Line {
     pub query: Query,
     pub at: Address,
 }
 
 // What is known after some lines: their ranges, and a number other than 0 as soon as the plan is refused, with the index beside it.
-#[derive(Drop)]
+#[derive(Clone, Copy)]
 struct Seen {
     ranges: [Run; 64],
     count: usize,
@@ -47,7 +47,7 @@ struct Seen {
 }
 
 // The number answered, and the index beside it.
-#[derive(Drop)]
+#[derive(Clone, Copy)]
 pub struct Judged {
     pub number: u32,
     pub index: u32,

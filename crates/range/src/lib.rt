@@ -22,7 +22,7 @@ use regions::{Change, Kind, Tag};
 use trim::trim_table;
 
 // Where the records of a table stand in a block.
-#[derive(Drop)]
+#[derive(Clone, Copy)]
 pub struct Span {
     pub start: usize,
     pub end: usize,

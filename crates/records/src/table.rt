@@ -12,14 +12,14 @@ use regions::bytes::{get_region, get_u64};
 use regions::{Kind, State};
 
 // How many records a table has, and how many addresses they say.
-#[derive(Drop)]
+#[derive(Clone, Copy)]
 pub struct Tally {
     pub count: u32,
     pub total: Size,
 }
 
 // What the check of a table answers: its total, or that it is not good.
-#[derive(Drop)]
+#[derive(Clone, Copy)]
 pub enum Checked {
     Total(Size),
     Bad,
@@ -181,7 +181,7 @@ pub fn ends_by(t: &[u8], i: usize, a: Address) -> bool
 }
 
 // Where a range begins among the records, and how many of them were looked at.
-#[derive(Drop)]
+#[derive(Clone, Copy)]
 struct Placed {
     at: usize,
     looks: usize,

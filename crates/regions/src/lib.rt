@@ -13,14 +13,14 @@ use address::{Address, CheckedAddress, Size};
 pub mod bytes;
 
 // What is told of an address beside its being there: flags (a sum of 1 hotplug, 2 mirror, 4 no-map) and a node.
-#[derive(Drop)]
+#[derive(Clone, Copy)]
 pub struct Tag {
     pub flags: u32,
     pub node: u32,
 }
 
 // The addresses from `base` up to, not including, base + size, all of one tag.
-#[derive(Drop)]
+#[derive(Clone, Copy)]
 pub struct Region {
     pub base: Address,
     pub size: Size,
@@ -28,28 +28,28 @@ pub struct Region {
 }
 
 // A run of addresses, from `low` up to, not including, `end`.
-#[derive(Drop)]
+#[derive(Clone, Copy)]
 pub struct Run {
     pub low: Address,
     pub end: Address,
 }
 
 // How an address stands in a table.
-#[derive(Drop)]
+#[derive(Clone, Copy)]
 pub enum State {
     Absent,
     Present(Tag),
 }
 
 // The two tables: memory present and memory taken.
-#[derive(Drop)]
+#[derive(Clone, Copy)]
 pub enum Kind {
     Memory,
     Taken,
 }
 
 // What a command makes of an address of its range: add and reserve fill, remove and free clear, mark and unmark set and clear a flag.
-#[derive(Drop)]
+#[derive(Clone, Copy)]
 pub enum Change {
     Fill(Tag),
     Clear,

@@ -24,7 +24,7 @@ pub fn past(r: Region) -> Address
 }
 
 // Where a record begins and ends.
-#[derive(Drop)]
+#[derive(Clone, Copy)]
 pub struct Bounds {
     pub base: Address,
     pub end: Address,

@@ -50,7 +50,7 @@ fn window(limit: Address, q: Query) -> Query
 }
 
 // Where the block's tables lie, from byte 80 to `middle` and from there to `end`, and how many records each has.
-#[derive(Drop)]
+#[derive(Clone, Copy)]
 pub struct Parts {
     pub middle: usize,
     pub end: usize,

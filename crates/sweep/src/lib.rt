@@ -11,7 +11,7 @@ use runs::{Bounds, bounds_high, bounds_low, past};
 
 // Where a sweep stands: what lies below `low` is behind it, and no run goes across. What is left of the memory record at hand ends at `top`; there is none
 // at hand where `top` is not above `low`. Memory record `memory` is the next to be read, and `next` is taken record `taken`.
-#[derive(Drop)]
+#[derive(Clone, Copy)]
 pub struct Sweep {
     pub low: Address,
     pub top: Address,
@@ -21,7 +21,7 @@ pub struct Sweep {
 }
 
 // A run, and the sweep behind it.
-#[derive(Drop)]
+#[derive(Clone, Copy)]
 pub struct Swept {
     pub low: Address,
     pub end: Address,
@@ -29,7 +29,7 @@ pub struct Swept {
 }
 
 // The next run, or none is left.
-#[derive(Drop)]
+#[derive(Clone, Copy)]
 pub enum Sweeping {
     Run(Swept),
     Over,

@@ -78,7 +78,7 @@ pub fn set_image_end(block: &mut [u8], image: Address) -> u32
 }
 
 // The commands on a range; add has its tag, mark and unmark the flag that they name.
-#[derive(Drop)]
+#[derive(Clone, Copy)]
 pub enum Verb {
     Add(Tag),
     Remove,

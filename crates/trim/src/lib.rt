@@ -16,7 +16,7 @@ use regions::Region;
 use regions::bytes::{get_region, put_region};
 
 // What is left of a record.
-#[derive(Drop)]
+#[derive(Clone, Copy)]
 pub enum Rounded {
     Left(Region),
     Nothing,

@@ -1,0 +1,11 @@
+-- `address::Address::plus` meets its contract.
+use native.Mathlib.Omega.{arith}
+use Rattle.address.proofs.Checked.{small_yes, small_no}
+use borrow.Author.Rules.{rules}
+use Rattle.address.proofs.Address.plus.Goals as goal
+
+pub returns-then-self-by : goal.returns-then-self-by
+returns-then-self-by c = small_no _ _ _ (omega arith)
+
+pub returns : goal.returns
+returns c = rw (← c.add.ensures) (small_yes _ _ _ (search rules))

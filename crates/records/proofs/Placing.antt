@@ -75,8 +75,8 @@ module _ (a : ℕ) where
   unfolding ending_by read_regions
   ending_past k zero l w h e = absurd (not-suc-le-zero h)
   ending_past zero (suc n) l w h e = rw (le-leb (end (read_region l)) a e) (omega arith)
-  ending_past (suc k) (suc n) l (next f w) h e =
-      let i = ending_past k n (drop 24 l) w (omega arith) (rw (further k l) e) in
+  ending_past {c = c} {m = m} {v = v} (suc k) (suc n) l (next f w) h e =
+      let i = ending_past {c = end (read_region l)} k n (drop 24 l) w (omega arith) (rw (further k l) e) in
       rw (le-leb (end (read_region l)) a (first_low w (omega arith))) (omega arith)
 
 -- ---- what the place tells

@@ -75,9 +75,9 @@ rising_ends (suc k) zero l w h = absurd (omega arith)
 rising_ends zero (suc zero) l w h = absurd (omega arith)
 rising_ends (suc k) (suc zero) l w h = absurd (omega arith)
 rising_ends zero (suc (suc n)) l (next f (next g w)) h = omega (arith, g.low, g.some)
-rising_ends (suc k) (suc (suc n)) l (next f w) h =
+rising_ends {c = c} {m = m} {v = v} (suc k) (suc (suc n)) l (next f w) h =
     let e : suc (k + 1) ≡ suc k + 1 = omega arith in
-    rw (further k l, further (k + 1) l, e) at (rising_ends k (suc n) (drop 24 l) w (omega arith))
+    rw (further k l, further (k + 1) l, e) at (rising_ends {c = end (read_region l)} k (suc n) (drop 24 l) w (omega arith))
 
 module _ (l : List ℕ) (n a i : ℕ) (w : Table l n) (e : i ≡ ending_by (a - 1) (read_regions n l)) where
   below_le : i ≤ ending_by a (read_regions n l)

@@ -109,9 +109,9 @@ module _ (tree : List ℕ) (a : Bool) (p : a ≡ structure_inside tree) where
       unfolding parts
       strings_outside f = rw (← p, e, aligned, ← k, f) refl
 
-      pub strings_inside : b ≡ true → (r : Bool) → r ≡ list tree → r ≡ parts tree
+      pub strings_inside_lem : b ≡ true → (r : Bool) → r ≡ list tree → r ≡ parts tree
       unfolding parts
-      strings_inside f r j = rw (← p, e, aligned, ← k, f) j
+      strings_inside_lem f r j = rw (← p, e, aligned, ← k, f) j
 
 -- ---- where the parts lie
 

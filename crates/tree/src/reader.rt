@@ -180,7 +180,7 @@ fn names_in(strings: &[u8]) -> usize
 }
 
 // The root of a tree: how many places of the strings block begin a name that ends inside it, and where what stands in the root begins.
-#[derive(Drop)]
+#[derive(Clone, Copy)]
 pub struct Root {
     pub names: usize,
     pub at: usize,

@@ -18,14 +18,14 @@ use tree::reader::Root;
 use tree::words::word_at;
 
 // How two trees are read: how many places of the board's strings block begin a name that ends inside it, and the service tree's root.
-#[derive(Drop)]
+#[derive(Clone, Copy)]
 pub struct Pair {
     pub names: usize,
     pub service: Root,
 }
 
 // The names on the way to a node: where each begins in the structure block, and its length.
-#[derive(Drop)]
+#[derive(Clone, Copy)]
 pub enum Way {
     Top,
     Child(usize, usize),

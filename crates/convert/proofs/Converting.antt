@@ -86,26 +86,26 @@ module _ (old : List ℕ) (l : Layout) (is : l ≡ edition_one) (g : Bool) (q : 
       rw k
 
   module _ (t : not g ≡ false) where
-    pub edition_one : good edition_one old ≡ true
-    edition_one = rw (← is) (sym q ∙ not-false g t)
+    pub edition_one_lem : good edition_one old ≡ true
+    edition_one_lem = rw (← is) (sym q ∙ not-false g t)
 
     module _ (h : Header) (e : h ≡ read_header old) where
       pub one_room : 24 * h.memory.count ≤ length (take (3152 - 80) (drop 80 old))
       unfolding capacity offset
-      one_room = rw e (counted_room edition_one old edition_one Memory)
+      one_room = rw e (counted_room edition_one old edition_one_lem Memory)
 
       pub one_image : (h.settings.image.0 ≡ 0 → ⊥) → false ≡ good_one old
       unfolding good_one
       one_image n =
           let z : number 8 (drop 72 old) ≡ 0 → ⊥ = rw e at n in
-          rw (ne_eqb (number 8 (drop 72 old)) 0 z, edition_one) (sym (and-false (flags_one (contents edition_one old).memory)))
+          rw (ne_eqb (number 8 (drop 72 old)) 0 z, edition_one_lem) (sym (and-false (flags_one (contents edition_one old).memory)))
 
       pub one_judged : h.settings.image.0 ≡ 0 → (f : Bool) → f ≡ flags_one (read_regions h.memory.count (take (3152 - 80) (drop 80 old))) → f ≡ good_one old
       unfolding good_one contents capacity offset
       one_judged n f d =
           let z : number 8 (drop 72 old) ≡ 0 = rw e at n in
           let k : f ≡ flags_one (read_regions (read_header old).memory.count (take (3152 - 80) (drop 80 old))) = rw e at d in
-          rw (eq-eqb (number 8 (drop 72 old)) 0 z, edition_one, and-true) k
+          rw (eq-eqb (number 8 (drop 72 old)) 0 z, edition_one_lem, and-true) k
 
 -- ---- the same in more room
 

@@ -1,6 +1,6 @@
 -- `convert::good_one` meets its contract.
 use Rattle.block.proofs.Layouts.{small_one, small_as}
-use Rattle.convert.proofs.Converting.{old_header, old_memory, not_edition_one, edition_one, one_image, one_room, one_judged}
+use Rattle.convert.proofs.Converting.{old_header, old_memory, not_edition_one, edition_one_lem, one_image, one_room, one_judged}
 use borrow.Author.Rules.{rules}
 use Rattle.convert.proofs.good_one.Statement.{statement}
 use Rattle.convert.proofs.good_one.Tie as tie
@@ -15,7 +15,7 @@ returns : tie.Need-returns
 returns c = search (not_edition_one, rules)
 
 get-header-requires : tie.Need-get-header-requires
-get-header-requires c κs = search (old_header, edition_one, rules)
+get-header-requires c κs = search (old_header, edition_one_lem, rules)
 
 sub-flags-one : tie.Need-overflow-sub-flags-one
 sub-flags-one c = search rules
@@ -24,7 +24,7 @@ part-flags-one-start : tie.Need-slice-bounds-flags-one-start
 part-flags-one-start c = search rules
 
 part-flags-one-end : tie.Need-slice-bounds-flags-one-end
-part-flags-one-end c = search (old_memory, edition_one, rules)
+part-flags-one-end c = search (old_memory, edition_one_lem, rules)
 
 cast-flags-one : tie.Need-overflow-cast-flags-one
 cast-flags-one c = search rules

@@ -1,0 +1,22 @@
+-- `plan::walk_numbers` meets its contract.
+use Prim.Native.Nat.{◌-◌}
+use Rattle.plan.proofs.ByNumbers.{after_start, after_asks, after_next, after_end}
+use borrow.Author.Rules.{rules}
+use Rattle.plan.proofs.walk_numbers.Goals as goal
+
+pub loop-i-init : goal.loop-i-init
+loop-i-init c = search (after_start, rules)
+
+pub judge-s-requires : goal.judge-s-requires
+judge-s-requires c = search (after_asks, rules)
+
+pub overflow_add-i : goal.overflow_add-i
+overflow_add-i c =
+    let f = c.ranges in
+    search rules
+
+pub loop-i-preserved : goal.loop-i-preserved
+loop-i-preserved c = search (after_next, rules)
+
+pub returns : goal.returns
+returns c = search (after_end, rules)

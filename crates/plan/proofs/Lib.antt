@@ -1,11 +1,10 @@
 pub mod Any
+pub mod ByLines
 pub mod ByNumbers
 pub mod Filling
 pub mod Good
 pub mod Judging
 pub mod Order
-pub mod Prefix
 pub mod Ranges
 pub mod Sentences
-pub mod Shared
 pub mod Whole

@@ -294,6 +294,7 @@ pub fn count_lines(
 }
 
 // The line of the numbers at an index.
+#[tactic(auto, unfolding(crate::specs::Numbers::count_of))]
 pub fn line_at(
     sizes: &[u64],
     aligns: &[u64],

@@ -10,11 +10,6 @@ loop-i-init c = search (after_start, rules)
 pub judge-s-requires : goal.judge-s-requires
 judge-s-requires c = search (after_asks, rules)
 
-pub overflow_add-i : goal.overflow_add-i
-overflow_add-i c =
-    let f = c.ranges in
-    search rules
-
 pub loop-i-preserved : goal.loop-i-preserved
 loop-i-preserved c = search (after_next, rules)
 

@@ -21,82 +21,82 @@ const PLAN: usize = 1;
 const BOARD: usize = 2;
 
 // Says what is wrong with the line behind those read, if it is wrong.
-fn complained(read: Lines) -> bool
+fn complained(rt: &HostRuntime, read: Lines) -> bool
     requires { read.count ≤ 65 }
 {
     if read.form && read.fits {
         return false;
     }
-    say_about(b"checkplan", PLAN);
-    say_error(b"line ");
-    say_error_number(read.count as u64 + 1);
+    say_about(rt, b"checkplan", PLAN);
+    say_error(rt, b"line ");
+    say_error_number(rt, read.count as u64 + 1);
     if read.form {
-        say_error(b": a number is too large or too long\n");
+        say_error(rt, b": a number is too large or too long\n");
     } else {
-        say_error(b": not seven decimal numbers\n");
+        say_error(rt, b": not seven decimal numbers\n");
     }
     true
 }
 
 // Checks a plan on a block, and prints the answer.
-fn judge(block: &mut [u8], read: Lines)
+fn judge(rt: &impl Print, block: &mut [u8], read: Lines)
     requires { read.count ≤ 65 }
 {
     let lines = read.lines;
     let judged = place_array(block, lines, read.count);
-    say_number(judged.number as u64);
-    say(b" ");
-    say_number(judged.index as u64);
-    say(b"\n");
+    say_number(rt, judged.number as u64);
+    say(rt, b" ");
+    say_number(rt, judged.index as u64);
+    say(rt, b"\n");
 }
 
 // The same on the board that a report tells of.
-fn judge_report(report: &[u8], read: Lines)
+fn judge_report(rt: &HostRuntime, report: &[u8], read: Lines)
     requires { read.count ≤ 65 }
 {
     let mut block = [0u8; LENGTH];
     memblock_fresh(&mut block);
     let number = memblock_intake_e820(&mut block, report);
     if number != 0 {
-        say_about(b"checkplan", BOARD);
-        say_error(b"the report is refused with ");
-        say_error_number(number as u64);
-        say_error(b"\n");
+        say_about(rt, b"checkplan", BOARD);
+        say_error(rt, b"the report is refused with ");
+        say_error_number(rt, number as u64);
+        say_error(rt, b"\n");
         return;
     }
-    judge(&mut block, read);
+    judge(rt, &mut block, read);
 }
 
 // The same on the bytes of a file.
-fn judge_board(board: &mut [u8], read: Lines)
+fn judge_board(rt: &HostRuntime, board: &mut [u8], read: Lines)
     requires { read.count ≤ 65 }
 {
     if board.len() == LENGTH {
-        judge(board, read);
+        judge(rt, board, read);
         return;
     }
-    judge_report(board, read);
+    judge_report(rt, board, read);
 }
 
-fn main() {
-    if !names_files(b"checkplan", b"PLAN BOARD", 2) {
+fn main(rt: HostRuntime) {
+    if !names_files(&rt, b"checkplan", b"PLAN BOARD", 2) {
         return;
     }
     let mut text = [0u8; TEXT];
-    let plan = read_named(b"checkplan", PLAN, &mut text);
+    let plan = read_named(&rt, b"checkplan", PLAN, &mut text);
     if !plan.read {
         return;
     }
     let mut board = [0u8; ROOM];
-    let input = read_named(b"checkplan", BOARD, &mut board);
+    let input = read_named(&rt, b"checkplan", BOARD, &mut board);
     if !input.read {
         return;
     }
     let n = plan.count;
     let read = read_lines(&text[..n]);
-    if complained(read) {
+    if complained(&rt, read) {
         return;
     }
     let m = input.count;
-    judge_board(&mut board[..m], read);
+    judge_board(&rt, &mut board[..m], read);
 }

@@ -22,7 +22,7 @@ const MOST_OF_32: u64 = 4294967295;
 
 // A line, as far as it is read: its numbers, which of them is being read, and how many digits of that one are; whether all this has the right form, and
 // whether each number has at most 20 digits and 64 bits.
-#[derive(Drop)]
+#[derive(Clone, Copy)]
 struct Fields {
     values: [u64; 7],
     index: usize,
@@ -32,14 +32,14 @@ struct Fields {
 }
 
 // A line, and where the next one begins.
-#[derive(Drop)]
+#[derive(Clone, Copy)]
 struct Row {
     fields: Fields,
     next: usize,
 }
 
 // What a line is.
-#[derive(Drop)]
+#[derive(Clone, Copy)]
 enum Parsed {
     Right(Line),
     NotSeven,
@@ -47,7 +47,7 @@ enum Parsed {
 }
 
 // The lines read, and what the one behind them is if it is wrong: not of the right form, or with a number that does not fit.
-#[derive(Drop)]
+#[derive(Clone, Copy)]
 pub struct Lines {
     pub lines: [Line; 65],
     pub count: usize,

@@ -10,19 +10,19 @@ use program::{read_argument, say_answer};
 const ROOM: usize = 2561;
 
 // Takes a report in and prints what came of it.
-fn take_in(report: &[u8]) {
+fn take_in(rt: &impl Print, report: &[u8]) {
     let mut block = [0u8; LENGTH];
     memblock_fresh(&mut block);
     let number = memblock_intake_e820(&mut block, report);
-    say_answer(number, &block);
+    say_answer(rt, number, &block);
 }
 
-fn main() {
+fn main(rt: HostRuntime) {
     let mut report = [0u8; ROOM];
-    let input = read_argument(b"report", &mut report);
+    let input = read_argument(&rt, b"report", &mut report);
     if !input.read {
         return;
     }
     let n = input.count;
-    take_in(&report[..n]);
+    take_in(&rt, &report[..n]);
 }

@@ -13,23 +13,23 @@ fn room() -> [u8; ROOM] {
 }
 
 // Takes a tree in and prints what came of it.
-fn take_in(tree: &[u8]) {
+fn take_in(rt: &impl Print, tree: &[u8]) {
     let mut block = [0u8; LENGTH];
     memblock_fresh(&mut block);
     let number = memblock_intake_tree(&mut block, tree);
-    say_answer(number, &block);
+    say_answer(rt, number, &block);
 }
 
-fn main() {
+fn main(rt: HostRuntime) {
     let mut tree = room();
-    let input = read_argument(b"treereport", &mut tree);
+    let input = read_argument(&rt, b"treereport", &mut tree);
     if !input.read {
         return;
     }
     let n = input.count;
     if n == ROOM {
-        say_error(b"treereport: the file is longer than 1048576 bytes\n");
+        say_error(&rt, b"treereport: the file is longer than 1048576 bytes\n");
         return;
     }
-    take_in(&tree[..n]);
+    take_in(&rt, &tree[..n]);
 }

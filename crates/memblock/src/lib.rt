@@ -1,5 +1,5 @@
-// The functions that boot code calls. Each takes numbers and lent bytes, answers document 01's number, and asks nothing of its caller. Its contract is
-// the equation with its line in the table of calls; that of lookup, which is lent no block, with its own.
+// The functions that boot code calls; `memblock_c` gives them their C names. Each takes numbers and lent bytes, answers document 01's number, and asks
+// nothing of its caller. Its contract is the equation with its line in the table of calls; that of lookup, which is lent no block, with its own.
 #![tactic(auto)]
 
 ghost use Rattle.std.specs.Prelude.{◌≡◌, []};
@@ -19,32 +19,28 @@ use search::find::put_slip;
 use tables::commands::{Verb, on_range};
 
 // Writes a fresh block over any 15,440 bytes.
-#[unsafe(no_mangle)]
-pub extern "C" fn memblock_fresh(block: &mut [u8]) -> u32
+pub fn memblock_fresh(block: &mut [u8]) -> u32
     ensures { answer result block.new [] ≡ answer_of to_fresh block.old }
 {
     tables::commands::fresh(block)
 }
 
 // Stores a limit and a direction (0 top-down, 1 bottom-up).
-#[unsafe(no_mangle)]
-pub extern "C" fn memblock_set(block: &mut [u8], limit: u64, direction: u32) -> u32
+pub fn memblock_set(block: &mut [u8], limit: u64, direction: u32) -> u32
     ensures { answer result block.new [] ≡ answer_of (to_set limit direction) block.old }
 {
     tables::commands::set(block, Address(limit), direction)
 }
 
 // Stores the image end (0: none), from where a bottom-up search goes up first.
-#[unsafe(no_mangle)]
-pub extern "C" fn memblock_set_image_end(block: &mut [u8], end: u64) -> u32
+pub fn memblock_set_image_end(block: &mut [u8], end: u64) -> u32
     ensures { answer result block.new [] ≡ answer_of (to_set_image_end end) block.old }
 {
     tables::commands::set_image_end(block, Address(end))
 }
 
 // Gives the tag to each address of the range not yet in memory.
-#[unsafe(no_mangle)]
-pub extern "C" fn memblock_add(block: &mut [u8], base: u64, size: u64, flags: u32, node: u32) -> u32
+pub fn memblock_add(block: &mut [u8], base: u64, size: u64, flags: u32, node: u32) -> u32
     ensures { answer result block.new [] ≡ answer_of (to_command (command (Add (tag flags node)) base size)) block.old }
 {
     on_range(
@@ -56,70 +52,56 @@ pub extern "C" fn memblock_add(block: &mut [u8], base: u64, size: u64, flags: u3
 }
 
 // Takes addresses out of memory.
-#[unsafe(no_mangle)]
-pub extern "C" fn memblock_remove(block: &mut [u8], base: u64, size: u64) -> u32
+pub fn memblock_remove(block: &mut [u8], base: u64, size: u64) -> u32
     ensures { answer result block.new [] ≡ answer_of (to_command (command Remove base size)) block.old }
 {
     on_range(block, Verb::Remove, Address(base), Size(size))
 }
 
 // Sets a flag (1 hotplug, 2 mirror, 4 no-map) on the range's addresses that are in memory.
-#[unsafe(no_mangle)]
-pub extern "C" fn memblock_mark(block: &mut [u8], base: u64, size: u64, flag: u32) -> u32
+pub fn memblock_mark(block: &mut [u8], base: u64, size: u64, flag: u32) -> u32
     ensures { answer result block.new [] ≡ answer_of (to_command (command (Mark flag) base size)) block.old }
 {
     on_range(block, Verb::Mark(flag), Address(base), Size(size))
 }
 
 // Clears it on them.
-#[unsafe(no_mangle)]
-pub extern "C" fn memblock_unmark(block: &mut [u8], base: u64, size: u64, flag: u32) -> u32
+pub fn memblock_unmark(block: &mut [u8], base: u64, size: u64, flag: u32) -> u32
     ensures { answer result block.new [] ≡ answer_of (to_command (command (Unmark flag) base size)) block.old }
 {
     on_range(block, Verb::Unmark(flag), Address(base), Size(size))
 }
 
 // Puts addresses into the taken set.
-#[unsafe(no_mangle)]
-pub extern "C" fn memblock_reserve(block: &mut [u8], base: u64, size: u64) -> u32
+pub fn memblock_reserve(block: &mut [u8], base: u64, size: u64) -> u32
     ensures { answer result block.new [] ≡ answer_of (to_command (command Reserve base size)) block.old }
 {
     on_range(block, Verb::Reserve, Address(base), Size(size))
 }
 
 // Takes addresses out of it, if every one is in it.
-#[unsafe(no_mangle)]
-pub extern "C" fn memblock_free(block: &mut [u8], base: u64, size: u64) -> u32
+pub fn memblock_free(block: &mut [u8], base: u64, size: u64) -> u32
     ensures { answer result block.new [] ≡ answer_of (to_command (command Free base size)) block.old }
 {
     on_range(block, Verb::Free, Address(base), Size(size))
 }
 
 // Rounds each memory record's base up and its end down by an alignment; one of which nothing is left goes.
-#[unsafe(no_mangle)]
-pub extern "C" fn memblock_trim(block: &mut [u8], alignment: u64) -> u32
+pub fn memblock_trim(block: &mut [u8], alignment: u64) -> u32
     ensures { answer result block.new [] ≡ answer_of (to_trim alignment) block.old }
 {
     tables::commands::trim(block, Size(alignment))
 }
 
 // Writes the lowest free address at or above `from` of the node and the wish asked for, and the end of its free run. The block stays.
-#[unsafe(no_mangle)]
-pub extern "C" fn memblock_next_free(
-    block: &[u8],
-    from: u64,
-    node: u32,
-    wish: u32,
-    slip: &mut [u8],
-) -> u32
+pub fn memblock_next_free(block: &[u8], from: u64, node: u32, wish: u32, slip: &mut [u8]) -> u32
     ensures { answer result block.now slip.new ≡ answer_of (to_next_free from node wish slip.old) block.now }
 {
     search::find::next_free(block, Address(from), node, wish, slip)
 }
 
 // Writes the address found and the end of its free run. The block stays.
-#[unsafe(no_mangle)]
-pub extern "C" fn memblock_find(
+pub fn memblock_find(
     block: &[u8],
     size: u64,
     alignment: u64,
@@ -143,8 +125,7 @@ pub extern "C" fn memblock_find(
 }
 
 // Reserves the size addresses that find finds; writes the address and the end of the free run that held it before the call.
-#[unsafe(no_mangle)]
-pub extern "C" fn memblock_allocate(
+pub fn memblock_allocate(
     block: &mut [u8],
     size: u64,
     alignment: u64,
@@ -168,40 +149,35 @@ pub extern "C" fn memblock_allocate(
 }
 
 // Writes the free pages from page `from` on as pieces, as many as fit in the buffer, and in the slip how many and where the next one begins. The block stays.
-#[unsafe(no_mangle)]
-pub extern "C" fn memblock_pages(block: &[u8], from: u64, buffer: &mut [u8], slip: &mut [u8]) -> u32
+pub fn memblock_pages(block: &[u8], from: u64, buffer: &mut [u8], slip: &mut [u8]) -> u32
     ensures { with_buffer buffer.new (answer result block.now slip.new) ≡ answer_of (to_pages from buffer.old slip.old) block.now }
 {
     pages::hand_over(block, from, buffer, slip)
 }
 
 // Takes an E820 report in, whole or not at all.
-#[unsafe(no_mangle)]
-pub extern "C" fn memblock_intake_e820(block: &mut [u8], report: &[u8]) -> u32
+pub fn memblock_intake_e820(block: &mut [u8], report: &[u8]) -> u32
     ensures { answer result block.new [] ≡ answer_of (to_intake report.now) block.old }
 {
     intake::e820::intake(block, report)
 }
 
 // Takes a board's device tree in: memory, the reservation list, reserved children, marks; whole or not at all.
-#[unsafe(no_mangle)]
-pub extern "C" fn memblock_intake_tree(block: &mut [u8], board: &[u8]) -> u32
+pub fn memblock_intake_tree(block: &mut [u8], board: &[u8]) -> u32
     ensures { answer result block.new [] ≡ answer_of (to_intake_tree board.now) block.old }
 {
     board::taking::intake_tree(block, board)
 }
 
 // The same with the properties that a service tree corrects.
-#[unsafe(no_mangle)]
-pub extern "C" fn memblock_intake_trees(block: &mut [u8], board: &[u8], service: &[u8]) -> u32
+pub fn memblock_intake_trees(block: &mut [u8], board: &[u8], service: &[u8]) -> u32
     ensures { answer result block.new [] ≡ answer_of (to_intake_trees board.now service.now) block.old }
 {
     board::taking::intake_trees(block, board, service)
 }
 
 // Looks a property up by path and name, in a service tree before a board's: says which has it, and writes its value's offset and length there.
-#[unsafe(no_mangle)]
-pub extern "C" fn memblock_lookup(
+pub fn memblock_lookup(
     service: &[u8],
     board: &[u8],
     path: &[u8],
@@ -220,8 +196,7 @@ pub extern "C" fn memblock_lookup(
 }
 
 // Writes what an edition 1 block says over any 15,440 bytes. The old block stays.
-#[unsafe(no_mangle)]
-pub extern "C" fn memblock_convert(old: &[u8], block: &mut [u8]) -> u32
+pub fn memblock_convert(old: &[u8], block: &mut [u8]) -> u32
     ensures { answer result block.new [] ≡ answer_of (to_convert old.now) block.old }
 {
     convert::convert(old, block)

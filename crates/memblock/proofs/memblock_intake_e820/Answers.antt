@@ -1,0 +1,9 @@
+-- `memblock::memblock_intake_e820` meets its contract.
+use Rattle.memblock.specs.Calls.{answer_of}
+use Rattle.memblock.proofs.Called.{called}
+use borrow.Author.Rules.{rules}
+use Rattle.memblock.proofs.memblock_intake_e820.Goals as goal
+
+pub returns : goal.returns
+unfolding answer_of
+returns c = search (called, rules)

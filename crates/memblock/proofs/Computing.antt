@@ -50,7 +50,7 @@ use Rattle.seek.proofs.BottomUp.{above, lowest_raised}
 use Rattle.search.proofs.Answering.{number_ready}
 use Rattle.fits.proofs.Ways.{walk, along}
 use Rattle.runs.proofs.Walks.{walk_first}
-use Rattle.memblock.specs.Calls.{Call, to_fresh, to_set, to_set_image_end, to_command, to_trim, to_find, to_next_free, to_allocate, to_pages, to_plan, to_intake, to_intake_tree, to_intake_trees, to_convert, answer_of, answers}
+use Rattle.memblock.specs.Calls.{Call, to_fresh, to_set, to_set_image_end, to_command, to_trim, to_find, to_next_free, to_allocate, to_pages, to_intake, to_intake_tree, to_intake_trees, to_convert, answer_of, answers}
 
 -- ---- which contents can stand in a block, computed
 
@@ -124,7 +124,6 @@ compute (to_find q slip) s = finds s (seek s q)
 compute (to_next_free from node wish slip) s = result 0 s []
 compute (to_allocate q slip) s = takes s q.size.0 (seek s q)
 compute (to_pages page buffer slip) s = result 0 s []
-compute (to_plan lines) s = result 0 s []
 compute (to_intake report) s = result 0 s []
 compute (to_intake_tree tree) s = result 0 s []
 compute (to_intake_trees board service) s = result 0 s []
@@ -144,7 +143,6 @@ computable (to_find q slip) = asks q slip
 computable (to_next_free from node wish slip) = false
 computable (to_allocate q slip) = asks q slip
 computable (to_pages page buffer slip) = false
-computable (to_plan lines) = false
 computable (to_intake report) = false
 computable (to_intake_tree tree) = false
 computable (to_intake_trees board service) = false
@@ -299,7 +297,6 @@ call_computed (to_find q slip) s sp e = find_computed s sp q slip e
 call_computed (to_next_free from node wish slip) s sp e = absurd (zero_not_one cc)
 call_computed (to_allocate q slip) s sp e = allocate_computed s sp q slip e
 call_computed (to_pages page buffer slip) s sp e = absurd (zero_not_one cc)
-call_computed (to_plan lines) s sp e = absurd (zero_not_one cc)
 call_computed (to_intake report) s sp e = absurd (zero_not_one cc)
 call_computed (to_intake_tree tree) s sp e = absurd (zero_not_one cc)
 call_computed (to_intake_trees board service) s sp e = absurd (zero_not_one cc)

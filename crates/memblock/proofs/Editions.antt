@@ -15,9 +15,8 @@ use Rattle.intake.specs.E820.{intake_e820}
 use Rattle.board.specs.Board.{intake_tree}
 use Rattle.board.specs.Pairs.{intake_trees}
 use Rattle.search.specs.Answers.{Answer, asking, find, allocate, next_free}
-use Rattle.plan.specs.Plan.{plan}
 use Rattle.pages.specs.Pages.{hand_over}
-use Rattle.memblock.specs.Calls.{Call, to_fresh, to_set, to_set_image_end, to_command, to_trim, to_find, to_next_free, to_allocate, to_pages, to_plan, to_intake, to_intake_tree, to_intake_trees, to_convert, answer_of}
+use Rattle.memblock.specs.Calls.{Call, to_fresh, to_set, to_set_image_end, to_command, to_trim, to_find, to_next_free, to_allocate, to_pages, to_intake, to_intake_tree, to_intake_trees, to_convert, answer_of}
 use Rattle.memblock.specs.Editions.{slip_fits, EditionSentence}
 
 -- the checks of a call with a slip
@@ -25,7 +24,7 @@ asked_one : (b slip : List ℕ) (x : Answer) (n : ℕ) (g : Bool) → g ≡ fals
 asked_one b slip x n g e s = rw (e, s)
 
 other_length : (c : Call) (b : List ℕ) → (length b ≡ block_length current → ⊥) → slip_fits c ≡ true → (answer_of c b).number ≡ 1
-unfolding answer_of fresh set set_image_end command_outcome trim find next_free allocate hand_over plan intake_e820 intake_tree intake_trees convert
+unfolding answer_of fresh set set_image_end command_outcome trim find next_free allocate hand_over intake_e820 intake_tree intake_trees convert
 other_length c b d s = go c s
   where
     l : eqb (length b) (block_length current) ≡ false
@@ -44,7 +43,6 @@ other_length c b d s = go c s
     go (to_next_free from node wish slip) s = asked_one b slip _ _ (good current b) bad s
     go (to_allocate q slip) s = asked_one b slip _ _ (good current b) bad s
     go (to_pages page buffer slip) s = rw (s, bad)
-    go (to_plan lines) s = rw bad
     go (to_intake report) s = rw bad
     go (to_intake_tree tree) s = rw bad
     go (to_intake_trees board service) s = rw bad

@@ -32,12 +32,9 @@ use Rattle.fits.specs.declared.Query.{Query}
 use Rattle.fits.specs.declared.Place.{Place}
 use Rattle.fits.specs.declared.Place.TheVariants.{Here, Nowhere}
 use Rattle.seek.specs.Search.{runs_of, found_place, next_place}
-use Rattle.plan.specs.declared.Line.{Line}
-use Rattle.plan.specs.Plan.{plan}
-use Rattle.plan.proofs.Good.{plan_left}
 use Rattle.pages.specs.Pages.{pieces_from, given, hand_over}
 use Rattle.search.specs.Answers.{Answer, answer, with_buffer, refuse, unless as unlessAnswer, slip_of, with_slip, asking, askable, refusal, check_number, next_number, place_answer, find, allocate, allocate_answer, reserved, next_free}
-use Rattle.memblock.specs.Calls.{Call, to_fresh, to_set, to_set_image_end, to_command, to_trim, to_find, to_next_free, to_allocate, to_pages, to_plan, to_intake, to_intake_tree, to_intake_trees, to_convert, plain, answer_of}
+use Rattle.memblock.specs.Calls.{Call, to_fresh, to_set, to_set_image_end, to_command, to_trim, to_find, to_next_free, to_allocate, to_pages, to_intake, to_intake_tree, to_intake_trees, to_convert, plain, answer_of}
 use Rattle.memblock.specs.Refusals.{slip_lent, buffer_lent, RefusalSentence, DoneSentence}
 
 -- ---- calls without a slip
@@ -151,11 +148,6 @@ record Fair (b slip filled : List ℕ) (x : Answer) : Type 0 where
 plain_fair : (b : List ℕ) (o : Outcome) → FairOutcome b o → Fair b [] [] (plain o)
 plain_fair b o f = record { block = f.keeps; buffer = λ d. refl; zero = λ d l. absurd (omega (arith, l)); lent = λ d l. refl; is_good = f.is_good }
 
-plan_fair : (b : List ℕ) (lines : List Line) → Fair b [] [] (plan current lines b)
-plan_fair b lines =
-    let p = plan_left b lines in
-    record { block = p.block; buffer = λ d. p.buffer; zero = λ d l. absurd (omega (arith, l)); lent = λ d l. p.slip; is_good = p.is_good }
-
 module _ (b slip : List ℕ) where
   with_slip_fair : (x : Answer) → (length slip ≡ 16 → Fair b slip [] x) → Fair b slip [] (with_slip b slip x)
   with_slip_fair x h = go (eqb (length slip) 16) refl
@@ -266,7 +258,6 @@ fair (to_find q slip) b = find_fair b slip q
 fair (to_next_free from node wish slip) b = next_free_fair b slip _ _ _
 fair (to_allocate q slip) b = allocate_fair b slip q
 fair (to_pages page buffer slip) b = pages_fair b slip page buffer
-fair (to_plan lines) b = plan_fair b lines
 fair (to_intake report) b = plain_fair b _ (intake_fair b report)
 fair (to_intake_tree tree) b = plain_fair b _ (tree_fair b tree)
 fair (to_intake_trees board service) b = plain_fair b _ (pair_fair b board service)

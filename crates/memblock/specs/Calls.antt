@@ -1,6 +1,5 @@
 -- The table of calls: every entry point that is lent a block, with its numbers and what else it is lent, and what it answers and leaves; the contract of each
--- of these functions is the equation with its line here. So is that of `plan::place_plan`, which C never calls. Then lists of calls on one block.
--- Assumes nothing.
+-- of these functions is the equation with its line here. Then lists of calls on one block. Assumes nothing.
 use Rattle.std.specs.Prelude.{ℕ, List, [], ◌∷◌}
 use Rattle.block.specs.Block.{current}
 use Rattle.range.specs.Outcomes.{Outcome}
@@ -11,8 +10,6 @@ use Rattle.board.specs.Board.{intake_tree}
 use Rattle.board.specs.Pairs.{intake_trees}
 use Rattle.fits.specs.declared.Query.{Query}
 use Rattle.search.specs.Answers.{Answer, answer, find, allocate, next_free}
-use Rattle.plan.specs.declared.Line.{Line}
-use Rattle.plan.specs.Plan.{plan}
 use Rattle.pages.specs.Pages.{hand_over}
 
 -- what a command on a range answers and leaves
@@ -30,7 +27,6 @@ pub data Call : Type 0 where
   to_next_free : (from node wish : ℕ) → (slip : List ℕ) → Call
   to_allocate : Query → (slip : List ℕ) → Call
   to_pages : (page : ℕ) → (buffer slip : List ℕ) → Call
-  to_plan : (lines : List Line) → Call
   to_intake : (report : List ℕ) → Call
   to_intake_tree : (tree : List ℕ) → Call
   to_intake_trees : (board service : List ℕ) → Call
@@ -40,7 +36,7 @@ pub data Call : Type 0 where
 abbrev pub plain : Outcome → Answer
 plain o = answer o.number o.block []
 
--- the number, the index, the block, the slip and the buffer after a call, for any bytes
+-- the number, the block, the slip and the buffer after a call, for any bytes
 unfoldable pub answer_of : Call → List ℕ → Answer
 answer_of to_fresh b = plain (fresh current b)
 answer_of (to_set limit direction) b = plain (set current limit direction b)
@@ -51,7 +47,6 @@ answer_of (to_find q slip) b = find current q b slip
 answer_of (to_next_free from node wish slip) b = next_free current from node wish b slip
 answer_of (to_allocate q slip) b = allocate current q b slip
 answer_of (to_pages page buffer slip) b = hand_over current page b buffer slip
-answer_of (to_plan lines) b = plan current lines b
 answer_of (to_intake report) b = plain (intake_e820 current report b)
 answer_of (to_intake_tree tree) b = plain (intake_tree current tree b)
 answer_of (to_intake_trees board service) b = plain (intake_trees current board service b)

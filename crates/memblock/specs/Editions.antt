@@ -1,7 +1,7 @@
 -- E4's sentence on blocks of edition 1 and of other lengths, of every call. Assumes nothing.
 use Rattle.std.specs.Prelude.{ℕ, ◌≡◌, Bool, true, List, eqb, length}
 use Rattle.block.specs.Block.{current, block_length, edition_one, good}
-use Rattle.memblock.specs.Calls.{Call, to_fresh, to_set, to_set_image_end, to_command, to_trim, to_find, to_next_free, to_allocate, to_pages, to_plan, to_intake, to_intake_tree, to_intake_trees, to_convert, answer_of}
+use Rattle.memblock.specs.Calls.{Call, to_fresh, to_set, to_set_image_end, to_command, to_trim, to_find, to_next_free, to_allocate, to_pages, to_intake, to_intake_tree, to_intake_trees, to_convert, answer_of}
 
 -- the call takes no slip, or is lent one of 16 bytes: else it gets 8, which is checked first
 abbrev pub slip_fits : Call → Bool
@@ -14,7 +14,6 @@ slip_fits (to_find q slip) = eqb (length slip) 16
 slip_fits (to_next_free from node wish slip) = eqb (length slip) 16
 slip_fits (to_allocate q slip) = eqb (length slip) 16
 slip_fits (to_pages page buffer slip) = eqb (length slip) 16
-slip_fits (to_plan lines) = true
 slip_fits (to_intake report) = true
 slip_fits (to_intake_tree tree) = true
 slip_fits (to_intake_trees board service) = true

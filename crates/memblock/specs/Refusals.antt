@@ -1,7 +1,7 @@
 -- Demand 1's second sentence, of every call and any bytes, and what a call that is done leaves. Assumes nothing.
 use Rattle.std.specs.Prelude.{ℕ, ◌≡◌, true, List, [], length, replicate}
 use Rattle.block.specs.Block.{current, good}
-use Rattle.memblock.specs.Calls.{Call, to_fresh, to_set, to_set_image_end, to_command, to_trim, to_find, to_next_free, to_allocate, to_pages, to_plan, to_intake, to_intake_tree, to_intake_trees, to_convert, answer_of}
+use Rattle.memblock.specs.Calls.{Call, to_fresh, to_set, to_set_image_end, to_command, to_trim, to_find, to_next_free, to_allocate, to_pages, to_intake, to_intake_tree, to_intake_trees, to_convert, answer_of}
 
 -- the slip that is lent to a call; a call that takes none has one of no bytes
 abbrev pub slip_lent : Call → List ℕ
@@ -14,7 +14,6 @@ slip_lent (to_find q slip) = slip
 slip_lent (to_next_free from node wish slip) = slip
 slip_lent (to_allocate q slip) = slip
 slip_lent (to_pages page buffer slip) = slip
-slip_lent (to_plan lines) = []
 slip_lent (to_intake report) = []
 slip_lent (to_intake_tree tree) = []
 slip_lent (to_intake_trees board service) = []
@@ -31,7 +30,6 @@ buffer_lent (to_find q slip) = []
 buffer_lent (to_next_free from node wish slip) = []
 buffer_lent (to_allocate q slip) = []
 buffer_lent (to_pages page buffer slip) = buffer
-buffer_lent (to_plan lines) = []
 buffer_lent (to_intake report) = []
 buffer_lent (to_intake_tree tree) = []
 buffer_lent (to_intake_trees board service) = []

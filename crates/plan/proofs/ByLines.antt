@@ -8,7 +8,7 @@ use native.Mathlib.Omega.{arith}
 use lib.ListN.{length, drop, get_or, drop_of_length-le}
 use Rattle.std.proofs.Math.Seq.{drop-cons}
 use Rattle.block.specs.Block.{current}
-use Rattle.search.specs.Answers.{Answer}
+use Rattle.plan.specs.Answers.{Answer}
 use Rattle.plan.specs.declared.Line.{Line}
 use Rattle.plan.specs.declared.Seen.{Seen}
 use Rattle.plan.specs.Plan.{plan}

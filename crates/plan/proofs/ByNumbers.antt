@@ -7,7 +7,7 @@ use mathlib.Core.List.{List}
 use native.Mathlib.Omega.{arith}
 use lib.ListN.{length}
 use Rattle.block.specs.Block.{current}
-use Rattle.search.specs.Answers.{Answer}
+use Rattle.plan.specs.Answers.{Answer}
 use Rattle.plan.specs.declared.Line.{Line}
 use Rattle.plan.specs.declared.Seen.{Seen}
 use Rattle.plan.specs.Plan.{plan}

@@ -11,7 +11,7 @@ use Rattle.regions.specs.declared.Kind.TheVariants.{Taken}
 use Rattle.regions.specs.Meaning.{at, shortest, top}
 use Rattle.block.specs.Block.{current, capacity, with_list, block_bytes, contents, good}
 use Rattle.range.specs.Outcomes.{unless, done_with, store}
-use Rattle.search.specs.Answers.{Answer, answer}
+use Rattle.plan.specs.Answers.{Answer, answer}
 use Rattle.plan.specs.declared.Line.{Line}
 use Rattle.plan.specs.Plan.{range_of, first_fault, with_ranges, at_zero, verdict, plan}
 use Rattle.plan.proofs.Sentences.{reserved_sentence}

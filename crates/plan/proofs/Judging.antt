@@ -23,7 +23,8 @@ use Rattle.fits.specs.Eligible.{eligible}
 use Rattle.seek.specs.Search.{window, runs_of}
 use Rattle.seek.specs.Steps.{Ready}
 use Rattle.seek.proofs.Found.{eligible_below, eligible_vacant}
-use Rattle.search.specs.Answers.{answer, with_index, refusal, check_number}
+use Rattle.search.specs.Answers.{refusal, check_number}
+use Rattle.plan.specs.Answers.{answer, with_index}
 use Rattle.search.proofs.Answering.{number_ready}
 use Rattle.plan.specs.declared.Line.{Line}
 use Rattle.plan.specs.declared.Seen.{Seen}

@@ -20,7 +20,7 @@ use Rattle.block.specs.Block.{current, Contents, contents, good}
 use Rattle.range.specs.Outcomes.{tag, store}
 use Rattle.fits.specs.Eligible.{Gives}
 use Rattle.fits.proofs.Extremes.{lowest_gives}
-use Rattle.search.specs.Answers.{Answer, answer}
+use Rattle.plan.specs.Answers.{Answer, answer}
 use Rattle.plan.specs.declared.Line.{Line}
 use Rattle.plan.specs.Plan.{range_of, lies, share, passes, any, line_at, faulty, first_fault, with_ranges, at_zero, verdict, plan}
 use Rattle.plan.specs.Sentences.{SameInAnyOrder, OrderSentence}

@@ -32,7 +32,8 @@ use Rattle.range.specs.Outcomes.{tag, unless, done_with, store}
 use Rattle.fits.specs.Eligible.{eligible, Gives}
 use Rattle.fits.proofs.Extremes.{lowest_gives}
 use Rattle.seek.specs.Search.{window, runs_of}
-use Rattle.search.specs.Answers.{answer, refusal}
+use Rattle.search.specs.Answers.{refusal}
+use Rattle.plan.specs.Answers.{answer}
 use Rattle.search.specs.DemandTwo.{Eligible}
 use Rattle.search.proofs.Eligible.{passes_eligible, eligible_passes}
 use Rattle.plan.specs.declared.Line.{Line}

@@ -18,7 +18,7 @@ use Rattle.regions.specs.Meaning.{at}
 use Rattle.block.specs.Block.{current, Contents, contents, good}
 use Rattle.fits.specs.Eligible.{lowest, Gives}
 use Rattle.fits.proofs.Extremes.{lowest_gives}
-use Rattle.search.specs.Answers.{answer, with_index}
+use Rattle.plan.specs.Answers.{answer, with_index}
 use Rattle.plan.specs.declared.Line.{Line}
 use Rattle.plan.specs.declared.Seen.{Seen}
 use Rattle.plan.specs.Plan.{range_of, lies, share, passes, any, line_at, faulty, first_fault, at_zero, reserving, verdict, plan}

@@ -11,7 +11,8 @@ use Rattle.block.specs.Block.{Contents, contents, good}
 use Rattle.range.specs.Outcomes.{Outcome, tag, store}
 use Rattle.fits.specs.Eligible.{query, lowest, eligible}
 use Rattle.seek.specs.Search.{window, runs_of}
-use Rattle.search.specs.Answers.{Answer, answer, with_index, refusal}
+use Rattle.search.specs.Answers.{refusal}
+use Rattle.plan.specs.Answers.{Answer, answer, with_index}
 use Rattle.plan.specs.declared.Line.{Line}
 
 -- ---- a line

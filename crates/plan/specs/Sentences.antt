@@ -8,7 +8,8 @@ use Rattle.regions.specs.Meaning.{at}
 use Rattle.regions.specs.Lists.{good_list}
 use Rattle.block.specs.Block.{current, Contents, with_list, block_bytes, contents, good}
 use Rattle.range.specs.Outcomes.{tag}
-use Rattle.search.specs.Answers.{Answer, answer, with_index, refusal}
+use Rattle.search.specs.Answers.{refusal}
+use Rattle.plan.specs.Answers.{Answer, answer, with_index}
 use Rattle.search.specs.DemandTwo.{Eligible, Lowest}
 use Rattle.plan.specs.declared.Line.{Line}
 use Rattle.plan.specs.Plan.{line_at, plan}

@@ -11,7 +11,7 @@ use Rattle.regions.specs.Bytes.{table_bytes}
 use Rattle.records.specs.declared.table.Tally.{Tally}
 use Rattle.records.specs.Totals.{tally}
 use Rattle.block.specs.Block.{current, contents, good}
-use Rattle.search.specs.Answers.{Answer, answer, with_index}
+use Rattle.plan.specs.Answers.{Answer, answer, with_index}
 use Rattle.plan.specs.declared.Line.{Line}
 use Rattle.plan.specs.declared.Seen.{Seen}
 use Rattle.plan.specs.Plan.{range_of, share, passes, any, with_ranges, at_zero, reserving}

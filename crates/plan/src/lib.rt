@@ -11,7 +11,7 @@ ghost use Rattle.records.specs.Steps.{Whole};
 ghost use Rattle.change.specs.Steps.{Stored};
 ghost use Rattle.block.specs.Block.{current, contents, good};
 ghost use Rattle.range.specs.Outcomes.{outcome};
-ghost use Rattle.search.specs.Answers.{answer, with_index};
+ghost use Rattle.plan.specs.Answers.{answer, with_index};
 ghost use Rattle.plan.specs.Plan.{share, passes as passes_by, any, with_ranges, reserving, plan};
 ghost use Rattle.plan.specs.Numbers.{numbers, line_of, lines_of, count_of};
 ghost use Rattle.plan.specs.Steps.{nothing_seen, ranges_of, noted, faulted, begun, judged, judged_all, ended, Holding, Going, AllApart, Placeable, Spells};

@@ -2,7 +2,7 @@
 use Prim.Native.Nat.{ℕ, ◌/◌, ◌%◌, min}
 use mathlib.Core.Path.{◌≡◌}
 use mathlib.Core.List.{List, []}
-use Rattle.search.specs.Answers.{Answer, answer, with_index}
+use Rattle.plan.specs.Answers.{Answer, answer, with_index}
 use Rattle.block.specs.Block.{current}
 use Rattle.plan.specs.declared.Line.{Line}
 use Rattle.plan.specs.Plan.{plan}

@@ -1,6 +1,6 @@
 -- What the tests' two functions answer. Assumes nothing.
 use Rattle.std.specs.Prelude.{ℕ, ◌/◌, ◌%◌, min, List, []}
-use Rattle.search.specs.Answers.{Answer, answer, with_index}
+use Rattle.plan.specs.Answers.{Answer, answer, with_index}
 use Rattle.plan.specs.declared.Line.{Line}
 use Rattle.plan.specs.Numbers.{Numbers, lines_from, count_of}
 

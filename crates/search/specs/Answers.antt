@@ -12,26 +12,20 @@ use Rattle.fits.specs.declared.Place.{Place}
 use Rattle.fits.specs.declared.Place.TheVariants.{Here, Nowhere}
 use Rattle.seek.specs.Search.{found_place, next_place}
 
--- the number, the index beside it (E12; 0 of any other call), and every byte of the block, of the answer slip and of the buffer that a call fills (E14) after
--- the call
+-- the number, and every byte of the block, of the answer slip and of the buffer that a call fills (E14) after the call
 pub record Answer : Type 0 where
   pub number : ℕ
-  pub index : ℕ
   pub block : List ℕ
   pub slip : List ℕ
   pub buffer : List ℕ
 
 -- of a call that fills no buffer: one of no bytes
 abbrev pub answer : ℕ → List ℕ → List ℕ → Answer
-answer n b slip = record { number = n; index = 0; block = b; slip = slip; buffer = [] }
+answer n b slip = record { number = n; block = b; slip = slip; buffer = [] }
 
 -- with what is in the buffer
 abbrev pub with_buffer : List ℕ → Answer → Answer
-with_buffer buffer a = record { number = a.number; index = a.index; block = a.block; slip = a.slip; buffer = buffer }
-
--- with an index beside the number
-abbrev pub with_index : ℕ → Answer → Answer
-with_index i a = record { number = a.number; index = i; block = a.block; slip = a.slip; buffer = a.buffer }
+with_buffer buffer a = record { number = a.number; block = a.block; slip = a.slip; buffer = buffer }
 
 -- two answers with the same number and the same slip
 pub record SameAnswer (x y : Answer) : Type 0 where

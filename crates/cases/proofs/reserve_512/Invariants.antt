@@ -1,0 +1,11 @@
+-- What the loop of `reserve_512` keeps, and how far it has to go.
+use mathlib.Core.Path.{◌≡◌}
+use Prim.Native.Nat.{◌≤◌, ◌-◌}
+use lib.ListN.{length}
+use Rattle.cases.proofs.reserve_512.Given as goal
+
+abbrev pub invariant-loop-done : goal.invariant-loop-done
+invariant-loop-done l = (l.done ≤ 512) × (length l.block ≡ length l.initial.block)
+
+abbrev pub decreases-loop-done : goal.decreases-loop-done
+decreases-loop-done l = 512 - l.done

@@ -14,7 +14,8 @@ use range::fill_range;
 use regions::{Kind, Tag};
 use seek::find_in;
 
-// Reserves the `size` addresses from `a` on, and writes `a` and `end` to the slip.
+// Reserves the `size` addresses from `a` on, and writes `a` and `end` to the slip. It stays a call of its own, so that allocate needs no more stack than find.
+#[inline(never)]
 fn take_found(block: &mut [u8], a: Address, size: Size, end: Address, slip: &mut [u8]) -> u32
     requires { Reservable block.old a.0 size.0 slip.old }
     ensures { answer result block.new slip.new ≡ reserved block.old a.0 end.0 (change_range current Taken (Fill (tag 0 0)) a.0 size.0 block.old) }

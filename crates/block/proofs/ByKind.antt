@@ -1,5 +1,5 @@
 -- Fields of a layout and a header by the kind of table. Assumes nothing.
-use Prim.Native.Nat.{◌+◌, ◌*◌, ◌-◌}
+use Prim.Native.Nat.{◌+◌, ◌*◌}
 use mathlib.Core.Path.{◌≡◌}
 use Rattle.regions.specs.declared.Kind.{Kind}
 use Rattle.regions.specs.declared.Kind.TheVariants.{Memory, Taken}
@@ -8,7 +8,6 @@ use Rattle.block.specs.declared.Header.{Header}
 use Rattle.records.specs.declared.table.Tally.{Tally}
 use Rattle.block.specs.Block.{capacity, offset}
 use Rattle.block.specs.Checks.{with_tally}
-use Rattle.address.specs.declared.CheckedSize.TheVariants as Size
 
 module _ (L : Layout) (k : Kind) where
   pub memory_start : k ≡ Memory → 80 ≡ offset L k

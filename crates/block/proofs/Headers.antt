@@ -1,5 +1,5 @@
 -- The header's bytes, written field by field. Assumes nothing.
-use Prim.Native.Nat.{ℕ, ◌+◌, ◌*◌, ◌-◌, ◌≤◌}
+use Prim.Native.Nat.{ℕ, ◌+◌, ◌*◌, ◌≤◌}
 use mathlib.Core.Path.{◌≡◌, sym, ap, ◌∙◌}
 use mathlib.Core.List.{List, ◌++◌}
 use native.Mathlib.Nat.{add_assoc}
@@ -16,7 +16,7 @@ use Rattle.block.proofs.Same.{sets_whole}
 use Rattle.address.specs.declared.Size.{Size}
 use mathlib.Core.Bool.{Bool}
 use native.Mathlib.Omega.{arith}
-use Rattle.regions.specs.Meaning.{at, total}
+use Rattle.regions.specs.Meaning.{at}
 
 pub entry_length : (k o n c : ℕ) → length (entry_bytes k o n c) ≡ 16
 unfolding entry_bytes

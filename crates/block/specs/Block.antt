@@ -3,7 +3,6 @@ use Rattle.std.specs.Prelude.{ℕ, ◌+◌, ◌*◌, ◌-◌, ◌^◌, Bool, tru
 use Rattle.regions.specs.declared.Kind.{Kind}
 use Rattle.regions.specs.declared.Kind.TheVariants.{Memory, Taken}
 use Rattle.regions.specs.declared.Region.{Region}
-use Rattle.regions.specs.Meaning.{total}
 use Rattle.regions.specs.Lists.{good_list}
 use Rattle.regions.specs.Bytes.{number, bytes, read_regions, table_bytes}
 use Rattle.block.specs.declared.Layout.{Layout}

@@ -2,7 +2,6 @@
 use Rattle.std.specs.Prelude.{◌≤◌}
 use Rattle.regions.specs.declared.Kind.{Kind}
 use Rattle.regions.specs.declared.Kind.TheVariants.{Memory, Taken}
-use Rattle.regions.specs.Meaning.{total}
 use Rattle.address.specs.declared.Size.{Size}
 use Rattle.block.specs.declared.Layout.{Layout}
 use Rattle.block.specs.declared.Header.{Header}

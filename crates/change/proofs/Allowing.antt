@@ -32,7 +32,6 @@ use Rattle.records.proofs.Parts.{table_rises, parts_rise, none_left, rest_begins
 use Rattle.change.specs.declared.inplace.Changed.{Changed}
 use Rattle.change.specs.declared.inplace.Changed.TheVariants.{Missing}
 use Rattle.change.specs.declared.gap.Gap.{Gap}
-use Rattle.change.specs.declared.gap.Gap.TheVariants as Gap
 use Rattle.lists.specs.declared.Edit.{Edit}
 use Rattle.lists.specs.Steps.{finished}
 use Rattle.change.specs.Steps.{OneTagged, Stored, StoredIf, GapAs}

@@ -11,7 +11,6 @@ use Rattle.regions.specs.declared.Region.{Region}
 use Rattle.regions.specs.declared.State.TheVariants.{Absent}
 use Rattle.regions.specs.Meaning.{at, total, top, top_is}
 use Rattle.regions.specs.Lists.{rises}
-use Rattle.regions.specs.Changes.{after}
 use Rattle.regions.specs.Bytes.{read_regions, table_bytes}
 use Rattle.regions.proofs.Rises.{Canonical, rises-Rises, Rises-rises}
 use Rattle.regions.proofs.Count.{sizes, total_le}

@@ -12,7 +12,7 @@ use Rattle.regions.specs.declared.Region.{Region}
 use Rattle.regions.specs.declared.Tag.{Tag}
 use Rattle.regions.specs.declared.State.{State}
 use Rattle.regions.specs.declared.State.TheVariants.{Absent, Present}
-use Rattle.regions.specs.Meaning.{at, end}
+use Rattle.regions.specs.Meaning.{at}
 use Rattle.regions.specs.Free.{usable}
 use Rattle.regions.specs.Runs.{in_one, run_at}
 use Rattle.regions.specs.Changes.{has}

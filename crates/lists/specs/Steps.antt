@@ -1,5 +1,5 @@
 -- A list of regions built up in a scratch table. Only inner contracts and proofs cite this module. Assumes nothing.
-use Rattle.std.specs.Prelude.{ℕ, ◌-◌, ◌≤◌, ◌≡◌, cond, List, leb, length}
+use Rattle.std.specs.Prelude.{ℕ, ◌≤◌, ◌≡◌, cond, List, leb, length}
 use Rattle.regions.specs.declared.Region.{Region}
 use Rattle.regions.specs.Meaning.{at, shortest, top}
 use Rattle.regions.specs.Bytes.{read_regions}

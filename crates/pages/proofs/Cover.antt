@@ -12,7 +12,7 @@ use lib.Dec.{leb, ltb}
 use lib.Pow.{pow_pos}
 use borrow.Author.Tests.{eq-eqb, le-leb, lt-leb, lt-ltb, leb-true, ltb-true}
 use Rattle.address.specs.Numbers.{down}
-use Rattle.address.proofs.Tests.{both, and, no, le_or_lt}
+use Rattle.address.proofs.Tests.{both, le_or_lt}
 use Rattle.address.proofs.Rounding.{down_le, down_near, down_multiple}
 use Rattle.regions.specs.declared.Region.{Region}
 use Rattle.regions.specs.Meaning.{inside, top, top_is}

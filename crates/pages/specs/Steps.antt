@@ -2,7 +2,6 @@
 use Rattle.std.specs.Prelude.{ℕ, ◌+◌, ◌/◌, ◌^◌, ◌≤◌, ◌<◌, max, ◌≡◌, false, ◌&&◌, List, leb, length, take, drop}
 use Rattle.std.proofs.Math.Option.{some}
 use Rattle.address.specs.Numbers.{down}
-use Rattle.regions.specs.Meaning.{end, at}
 use Rattle.sweep.specs.declared.Swept.{Swept}
 use Rattle.sweep.specs.declared.Sweeping.{Sweeping}
 use Rattle.sweep.specs.declared.Sweeping.TheVariants.{Run, Over}

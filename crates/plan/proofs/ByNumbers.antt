@@ -11,7 +11,7 @@ use Rattle.plan.specs.Answers.{Answer}
 use Rattle.plan.specs.declared.Line.{Line}
 use Rattle.plan.specs.declared.Seen.{Seen}
 use Rattle.plan.specs.Plan.{plan}
-use Rattle.plan.specs.Numbers.{Numbers, numbers, line_of, lines_from, count_of, lines_of}
+use Rattle.plan.specs.Numbers.{Numbers, line_of, lines_from, count_of, lines_of}
 use Rattle.plan.specs.Steps.{begun, judged, judged_all, ended, Going, Placeable}
 use Rattle.plan.proofs.Judging.{going_one, going_on, going_begun}
 use Rattle.plan.proofs.Whole.{placeable_all, ended_all}

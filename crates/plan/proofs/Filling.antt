@@ -8,16 +8,15 @@ use mathlib.Core.List.{List, [], ◌∷◌, ◌++◌, append-nil}
 use native.Mathlib.Omega.{arith}
 use lib.Dec.{leb, ltb}
 use lib.ListN.{length, take, drop, get_or, replicate, drop_of_length-le}
-use lib.Seq.{length-take-le, take-length, take-suc, get_or-take, take_at}
+use lib.Seq.{length-take-le, take-length, get_or-take, take_at}
 use borrow.Author.Tests.{le-leb, lt-leb, leb-true, ltb-true}
 use Rattle.address.proofs.Tests.{both, and}
 use Rattle.regions.specs.declared.Run.{Run}
 use Rattle.regions.specs.declared.Region.{Region}
 use Rattle.regions.specs.declared.Kind.TheVariants.{Taken}
-use Rattle.regions.specs.declared.State.{State}
 use Rattle.regions.specs.declared.State.TheVariants.{Absent, Present}
 use Rattle.regions.specs.declared.Change.TheVariants.{Fill}
-use Rattle.regions.specs.Meaning.{at, shortest, total, top}
+use Rattle.regions.specs.Meaning.{at, shortest, top}
 use Rattle.regions.specs.Lists.{legal_tag, good_list}
 use Rattle.regions.specs.Changes.{change, after}
 use Rattle.regions.specs.Bytes.{read_regions, table_bytes}

@@ -1,9 +1,9 @@
 -- E12's sentences: what the definition's tests come to for lines and addresses. Assumes nothing.
-use Prim.Native.Nat.{ℕ, zero, suc, ◌+◌, ◌≤◌, ◌<◌, min, max}
-use native.Mathlib.Nat.{not-suc-le-zero, le_of_suc-le-suc}
+use Prim.Native.Nat.{ℕ, ◌+◌, ◌≤◌, ◌<◌, min, max}
+use native.Mathlib.Nat.{not-suc-le-zero}
 use mathlib.Core.Path.{◌≡◌, refl, sym, ap, ◌∙◌}
 use mathlib.Core.Bool.{Bool, true, false, cond, not, ◌||◌}
-use mathlib.Core.List.{List, [], ◌∷◌, map}
+use mathlib.Core.List.{List, [], map}
 use mathlib.Core.Logic.{◌⊎◌, inl, inr}
 use mathlib.Core.Option.{Option, none, some}
 use native.Mathlib.Omega.{arith}
@@ -11,11 +11,10 @@ use lib.Dec.{leb, ltb, eqb}
 use lib.ListN.{length, take, get_or, length-map, length-take, get_or-map}
 use lib.Seq.{take-length, get_or-take}
 use borrow.Author.Tests.{eq-eqb, eqb-true, leb-true, le-leb, lt-leb, ltb-true, lt-ltb}
-use Rattle.address.proofs.Tests.{no, clash, both, and, le_or_lt, zero_not_one}
+use Rattle.address.proofs.Tests.{no, clash, both, and, le_or_lt}
 use Rattle.regions.specs.declared.Run.{Run}
 use Rattle.regions.specs.declared.Region.{Region}
 use Rattle.regions.specs.declared.Kind.TheVariants.{Memory, Taken}
-use Rattle.regions.specs.declared.State.{State}
 use Rattle.regions.specs.declared.State.TheVariants.{Present}
 use Rattle.regions.specs.Meaning.{at, shortest, top}
 use Rattle.regions.specs.Lists.{good_list}
@@ -34,7 +33,6 @@ use Rattle.fits.proofs.Extremes.{lowest_gives}
 use Rattle.seek.specs.Search.{window, runs_of}
 use Rattle.search.specs.Answers.{refusal}
 use Rattle.plan.specs.Answers.{answer}
-use Rattle.search.specs.DemandTwo.{Eligible}
 use Rattle.search.proofs.Eligible.{passes_eligible, eligible_passes}
 use Rattle.plan.specs.declared.Line.{Line}
 use Rattle.plan.specs.Plan.{range_of, lies, share, passes, any, line_at, faulty, first_fault, with_ranges, at_zero, verdict, plan}

@@ -12,9 +12,8 @@ use lib.Dec.{leb, ltb, eqb}
 use lib.ListN.{length, take, set, length-set, length-map, length-append, get_or-map}
 use lib.Seq.{take-suc-set, append_snoc, take_at, get_or-append_seam}
 use borrow.Author.Tests.{eq-eqb, ne_eqb, leb-true, ltb-true, lt-ltb}
-use Rattle.address.proofs.Tests.{no, clash, both, le_or_lt, zero_not_one}
+use Rattle.address.proofs.Tests.{clash, both, le_or_lt, zero_not_one}
 use Rattle.regions.specs.declared.Run.{Run}
-use Rattle.regions.specs.Meaning.{at}
 use Rattle.block.specs.Block.{current, Contents, contents, good}
 use Rattle.fits.specs.Eligible.{lowest, Gives}
 use Rattle.fits.proofs.Extremes.{lowest_gives}

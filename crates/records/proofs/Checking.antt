@@ -4,7 +4,6 @@ use mathlib.Core.Bool.{and-false}
 use native.Mathlib.Nat.{sub-zero, mod-eq-sub-mod}
 use borrow.Author.Tests.{lt-leb, not-true, not-false}
 use Rattle.address.specs.declared.Size.{Size}
-use Rattle.address.specs.Numbers.{size}
 use Rattle.regions.specs.declared.Region.{Region}
 use Rattle.regions.specs.declared.Kind.{Kind}
 use Rattle.regions.specs.declared.State.{State}
@@ -22,8 +21,6 @@ use Rattle.regions.proofs.Records.{read_regions_rest, read_regions_end}
 use Rattle.records.specs.Checks.{all_zeros, checked_list, good_part, checked_table}
 use Rattle.records.specs.declared.table.Checked.{Checked}
 use Rattle.records.specs.declared.table.Checked.TheVariants.{Total, Bad}
-use Rattle.address.specs.declared.CheckedAddress.TheVariants as Address
-use Rattle.address.specs.declared.CheckedSize.TheVariants as Size
 
 -- of the list xs the records before rest are checked: they end at low, the address below has the state below, and their sizes make sum
 pub record Along (k : Kind) (xs rest : List Region) (low : ℕ) (below : State) (sum : ℕ) : Type 0 where

@@ -1,5 +1,5 @@
 -- The bytes of a good list are a table. Assumes nothing.
-use Rattle.std.proofs.Common.{◌≡◌, ℕ, ◌-◌, ◌*◌, ◌≤◌, true, eqb, leb, List, [], ◌∷◌, length, arith, eqb-true, leb-true}
+use Rattle.std.proofs.Common.{◌≡◌, ℕ, ◌*◌, ◌≤◌, true, eqb, leb, List, [], ◌∷◌, length, arith, eqb-true, leb-true}
 use Rattle.address.proofs.Tests.{both}
 use Rattle.regions.specs.declared.Kind.{Kind}
 use Rattle.regions.specs.declared.Kind.TheVariants.{Memory, Taken}

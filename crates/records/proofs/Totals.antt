@@ -1,7 +1,6 @@
 -- A table's total, record by record. Assumes nothing.
 use Rattle.std.proofs.Common.{◌≡◌, ℕ, ◌+◌, ◌-◌, ◌*◌, ◌<◌, ◌≤◌, true, List, ◌∷◌, drop, ap, arith}
 use native.Mathlib.Nat.{sub-zero}
-use Rattle.address.specs.declared.CheckedAddress.TheVariants.{Outside}
 use Rattle.address.specs.declared.Size.{Size}
 use Rattle.address.specs.declared.CheckedSize.{CheckedSize}
 use Rattle.address.specs.Numbers.{size}

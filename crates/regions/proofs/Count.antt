@@ -10,7 +10,7 @@ use Rattle.regions.specs.declared.Tag.{Tag}
 use Rattle.regions.specs.declared.Region.{Region}
 use Rattle.regions.specs.declared.State.{State}
 use Rattle.regions.specs.declared.State.TheVariants.{Absent, Present}
-use Rattle.regions.specs.Meaning.{Meaning, region, at, joins, join, push, shortest, one, total}
+use Rattle.regions.specs.Meaning.{Meaning, region, joins, join, push, shortest, one, total}
 
 -- the sum of the sizes
 unfoldable pub sizes : List Region → ℕ

@@ -18,7 +18,7 @@ use Rattle.regions.specs.declared.Tag.{Tag}
 use Rattle.regions.specs.declared.Region.{Region}
 use Rattle.regions.specs.declared.State.{State}
 use Rattle.regions.specs.declared.State.TheVariants.{Absent, Present}
-use Rattle.regions.specs.Meaning.{Meaning, region, end, at, same_tag, joins, join, push, shortest}
+use Rattle.regions.specs.Meaning.{Meaning, region, end, same_tag, joins, join, push, shortest}
 
 -- ---- tags
 

@@ -12,7 +12,6 @@ use Rattle.regions.specs.declared.Kind.TheVariants.{Memory, Taken}
 use Rattle.regions.specs.declared.Region.{Region}
 use Rattle.regions.specs.declared.State.TheVariants.{Absent, Present}
 use Rattle.regions.specs.Meaning.{end, at, top, top_is}
-use Rattle.regions.specs.Changes.{has}
 use Rattle.regions.specs.Free.{usable, free_runs}
 use Rattle.regions.specs.Bytes.{read_region, read_regions}
 use Rattle.regions.specs.Steps.{Parted}

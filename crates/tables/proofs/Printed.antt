@@ -23,7 +23,7 @@ use Rattle.regions.specs.Steps.{stretch}
 use Rattle.regions.proofs.Update.{walk, update}
 use Rattle.regions.proofs.Update.{update_shortest}
 use Rattle.block.specs.declared.Layout.{Layout}
-use Rattle.block.specs.Block.{edition_one, current, capacity, offset, with_list, fresh_contents, entry_bytes, entries_bytes, settings_bytes, totals_bytes, header_bytes, block_bytes, good_table, good_contents, good}
+use Rattle.block.specs.Block.{edition_one, current, capacity, offset, with_list, fresh_contents, entry_bytes, entries_bytes, settings_bytes, totals_bytes, header_bytes, block_bytes, good_table, good_contents}
 use Rattle.tables.specs.declared.commands.Verb.TheVariants.{Add}
 use Rattle.range.specs.Outcomes.{outcome, tag, store}
 use Rattle.tables.specs.Commands.{fresh, command, command_outcome}

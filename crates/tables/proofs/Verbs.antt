@@ -7,7 +7,6 @@ use Rattle.regions.specs.declared.Kind.{Kind}
 use Rattle.regions.specs.declared.Kind.TheVariants.{Memory, Taken}
 use Rattle.regions.specs.declared.Tag.{Tag}
 use Rattle.regions.specs.declared.Change.{Change}
-use Rattle.regions.specs.declared.Change.TheVariants as Change
 use Rattle.regions.specs.Lists.{legal_tag}
 use Rattle.regions.specs.Changes.{one_flag}
 use Rattle.regions.proofs.Flags.{one_flag_bounds}

@@ -5,7 +5,6 @@ use Rattle.regions.specs.declared.Kind.{Kind}
 use Rattle.regions.specs.declared.Kind.TheVariants.{Memory, Taken}
 use Rattle.regions.specs.declared.Region.{Region}
 use Rattle.regions.specs.declared.Change.{Change}
-use Rattle.regions.specs.declared.Change.TheVariants as Change
 use Rattle.regions.specs.Lists.{legal_tag}
 use Rattle.regions.specs.Changes.{one_flag, cut, allowed}
 use Rattle.regions.specs.Trim.{trimmed_list}

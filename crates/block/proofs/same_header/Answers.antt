@@ -1,7 +1,6 @@
 -- `block::same_header` meets its contract.
 -- `block::same_header` meets its contract.
 use native.Mathlib.Omega.{arith}
-use Prim.Native.Nat.{◌-◌}
 use mathlib.Core.Path.{refl}
 use Rattle.regions.proofs.Numbers.{bytes_all}
 use Rattle.block.proofs.Same.{same_hit, same_again, same_end}

@@ -1,5 +1,4 @@
 -- `convert::flags_one` meets its contract.
-use Prim.Native.Nat.{◌-◌}
 use Rattle.convert.proofs.Converting.{flags_start, flags_end, flags_other, flags_next}
 use borrow.Author.Rules.{rules}
 use Rattle.convert.proofs.flags_one.Goals as goal

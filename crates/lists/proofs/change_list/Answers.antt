@@ -1,11 +1,9 @@
 -- `lists::change_list` meets its contract.
-use Prim.Native.Nat.{◌-◌}
 use mathlib.Core.Path.{◌≡◌, refl}
 use native.Mathlib.Omega.{arith}
-use Rattle.address.specs.declared.CheckedAddress.TheVariants.{At}
 use Rattle.address.proofs.Checked.{address_at}
 use Rattle.regions.specs.Changes.{change}
-use Rattle.lists.specs.declared.Pushed.TheVariants.{Count, Full}
+use Rattle.lists.specs.declared.Pushed.TheVariants.{Full}
 use Rattle.lists.proofs.Pushing.{holds_count}
 use Rattle.lists.proofs.Walking.{walk_start, ahead_start, walk_low, walk_flags_bounded, walk_past, walk_gap_full, walk_full, walk_next, walk_ahead, walk_end}
 use borrow.Author.Rules.{rules}

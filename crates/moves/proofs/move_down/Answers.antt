@@ -1,5 +1,4 @@
 -- `moves::move_down` meets its contract.
-use Prim.Native.Nat.{◌-◌}
 use Rattle.moves.proofs.Moving.{none_down, down_four, down_one, end_down}
 use native.Mathlib.Omega.{arith}
 use borrow.Author.Rules.{rules}

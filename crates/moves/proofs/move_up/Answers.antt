@@ -1,5 +1,4 @@
 -- `moves::move_up` meets its contract.
-use Prim.Native.Nat.{◌-◌}
 use Rattle.moves.proofs.Moving.{none_up, up_four, up_one, end_up}
 use native.Mathlib.Omega.{arith}
 use borrow.Author.Rules.{rules}

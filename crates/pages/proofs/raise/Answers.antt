@@ -1,5 +1,4 @@
 -- `pages::raise` meets its contract.
-use Prim.Native.Nat.{◌-◌}
 use Rattle.pages.proofs.Trying.{double_small, double_power, raise_again, raise_stays, raise_top}
 use borrow.Author.Rules.{rules}
 use Rattle.pages.proofs.raise.Goals as goal

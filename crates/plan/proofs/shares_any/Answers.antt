@@ -1,5 +1,4 @@
 -- `plan::shares_any` meets its contract.
-use Prim.Native.Nat.{◌-◌}
 use Rattle.plan.proofs.Ranges.{none_shared, shared_here, shared_on}
 use borrow.Author.Rules.{rules}
 use Rattle.plan.proofs.shares_any.Goals as goal

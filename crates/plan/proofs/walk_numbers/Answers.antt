@@ -1,5 +1,4 @@
 -- `plan::walk_numbers` meets its contract.
-use Prim.Native.Nat.{◌-◌}
 use Rattle.plan.proofs.ByNumbers.{after_start, after_asks, after_next, after_end}
 use borrow.Author.Rules.{rules}
 use Rattle.plan.proofs.walk_numbers.Goals as goal

@@ -1,5 +1,4 @@
 -- `sweep::advance` meets its contract. The invariant: nothing is free up to where the sweep has come to, and what it holds says all that lies ahead.
-use Prim.Native.Nat.{◌-◌}
 use Rattle.runs.proofs.Steps.{past_fits}
 use Rattle.sweep.proofs.Tables.{memory_table, taken_table, sweep_start, sweep_over, sweep_skip, sweep_take, sweep_last, one_more, one_less, sweep_gap, sweep_none}
 use borrow.Author.Rules.{rules}

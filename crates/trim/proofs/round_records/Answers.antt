@@ -1,5 +1,4 @@
 -- `trim::round_records` meets its contract.
-use Prim.Native.Nat.{◌-◌}
 use mathlib.Core.Path.{refl}
 use native.Mathlib.Omega.{arith}
 use Rattle.trim.proofs.Trimming.{round_start, round_done, rest_kept, over_high, over_next, over_end}

@@ -1,5 +1,4 @@
 -- `board::ranges::take_list` meets its contract.
-use Prim.Native.Nat.{◌-◌}
 use mathlib.Core.Path.{refl}
 use Rattle.intake.proofs.Good.{command_kept}
 use Rattle.board.proofs.Regs.{list_start, list_over, list_ended, list_refused, list_next}

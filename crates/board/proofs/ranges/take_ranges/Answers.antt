@@ -1,5 +1,4 @@
 -- `board::ranges::take_ranges` meets its contract.
-use Prim.Native.Nat.{◌-◌}
 use mathlib.Core.Path.{refl}
 use Rattle.intake.proofs.Good.{command_kept}
 use Rattle.board.proofs.Regs.{entries_start, entries_done, entries_refused, entries_next}

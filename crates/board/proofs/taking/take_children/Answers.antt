@@ -1,5 +1,4 @@
 -- `board::taking::take_children` meets its contract.
-use Prim.Native.Nat.{◌-◌}
 use mathlib.Core.Path.{refl}
 use Rattle.intake.proofs.Good.{turn_good}
 use Rattle.values.proofs.Children.{name_within, inner_within, after_within, after_less, child_goes, children_goes, child_holds, rest_holds}

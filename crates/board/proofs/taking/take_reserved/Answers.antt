@@ -1,5 +1,4 @@
 -- `board::taking::take_reserved` meets its contract.
-use Prim.Native.Nat.{◌-◌}
 use mathlib.Core.Path.{refl}
 use Rattle.intake.proofs.Good.{turn_good}
 use Rattle.values.proofs.Children.{name_within, inner_within, after_within, after_less, reserved_goes}

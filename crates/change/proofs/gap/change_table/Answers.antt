@@ -1,6 +1,4 @@
 -- `change::gap::change_table` meets its contract.
-use mathlib.Core.Path.{◌≡◌}
-use Rattle.change.specs.declared.gap.Gap.TheVariants.{At}
 use Rattle.change.proofs.Filling.{gap_at}
 use Rattle.change.proofs.Allowing.{missing_stored, allowed_stored, filled_stored}
 use borrow.Author.Rules.{rules}

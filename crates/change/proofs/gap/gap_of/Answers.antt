@@ -1,9 +1,7 @@
 -- `change::gap::gap_of` meets its contract.
-use mathlib.Core.Path.{◌≡◌, sym, ◌∙◌}
+use mathlib.Core.Path.{sym, ◌∙◌}
 use borrow.Author.Tests.{not-false}
-use Rattle.regions.specs.declared.Change.TheVariants.{Fill}
 use Rattle.records.proofs.Placing.{place_le}
-use borrow.Author.Rules.{rules}
 use Rattle.change.proofs.gap.gap_of.Goals as goal
 
 pub clear_from-requires : goal.clear_from-requires

@@ -1,7 +1,7 @@
 -- `change::inplace::rebuild_in` meets its contract.
 use mathlib.Core.Path.{◌≡◌}
 use native.Mathlib.Omega.{arith}
-use Rattle.lists.specs.declared.Pushed.TheVariants.{Count, Full}
+use Rattle.lists.specs.declared.Pushed.TheVariants.{Full}
 use Rattle.change.proofs.Rebuilding.{met_order, met_most, met_small, part_table, tried_full, splice_ready, tried_spliced}
 use borrow.Author.Rules.{rules}
 use Rattle.change.proofs.inplace.rebuild_in.Goals as goal

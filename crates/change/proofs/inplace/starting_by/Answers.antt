@@ -1,5 +1,4 @@
 -- `change::inplace::starting_by` meets its contract.
-use Prim.Native.Nat.{◌-◌}
 use Rattle.change.proofs.Meeting.{begins_room, begins_start, begins_hit, begins_next, begins_end}
 use borrow.Author.Rules.{rules}
 use Rattle.change.proofs.inplace.starting_by.Goals as goal

@@ -1,5 +1,4 @@
 -- `intake::e820::take_in_turn` meets its contract.
-use Prim.Native.Nat.{◌-◌}
 use mathlib.Core.Path.{refl}
 use Rattle.address.specs.Numbers.{power_below}
 use Rattle.intake.proofs.Turns.{entries_start, entries_refused, entries_next, entries_done}

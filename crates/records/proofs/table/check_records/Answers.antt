@@ -1,5 +1,5 @@
 -- `records::table::check_records` meets its contract.
-use Rattle.std.proofs.Common.{◌≡◌, ◌-◌, true, ⊎_elim, arith, rules}
+use Rattle.std.proofs.Common.{◌≡◌, true, arith, rules}
 use Rattle.regions.specs.Meaning.{top_is}
 use Rattle.regions.specs.Lists.{fits}
 use Rattle.regions.proofs.Numbers.{bytes_all}

@@ -1,6 +1,6 @@
 -- `records::table::copy_front` meets its contract.
 use Rattle.records.proofs.Copying.{copy_end, copy_more}
-use Rattle.std.proofs.Common.{◌-◌, arith, rules}
+use Rattle.std.proofs.Common.{arith, rules}
 use Rattle.records.proofs.table.copy_front.Goals as goal
 
 pub loop-i-preserved : goal.loop-i-preserved

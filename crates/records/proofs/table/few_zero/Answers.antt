@@ -1,5 +1,5 @@
 -- `records::table::few_zero` meets its contract.
-use Rattle.std.proofs.Common.{◌-◌, rules}
+use Rattle.std.proofs.Common.{rules}
 use Rattle.records.proofs.Zeros.{zeros_rest, zeros_hit8, zeros_again8}
 use Rattle.records.proofs.table.few_zero.Goals as goal
 

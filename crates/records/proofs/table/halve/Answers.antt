@@ -1,5 +1,5 @@
 -- `records::table::halve` meets its contract.
-use Rattle.std.proofs.Common.{◌-◌, ⊎_elim, arith, rules}
+use Rattle.std.proofs.Common.{arith, rules}
 use Rattle.records.proofs.Halving.{narrowed_all, narrowed_none, narrowed_past, narrowed_above}
 use Rattle.records.proofs.table.halve.Goals as goal
 use Rattle.records.proofs.table.halve.Goals.{then-ends_by, else-ends_by}

@@ -1,5 +1,5 @@
 -- `records::table::put_zeros` meets its contract.
-use Rattle.std.proofs.Common.{◌-◌, arith, rules}
+use Rattle.std.proofs.Common.{arith, rules}
 use Rattle.records.proofs.Zeros.{zero_more, zero_end, zero_none}
 use Rattle.records.proofs.table.put_zeros.Goals as goal
 

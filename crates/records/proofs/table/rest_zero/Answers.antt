@@ -1,5 +1,5 @@
 -- `records::table::rest_zero` meets its contract.
-use Rattle.std.proofs.Common.{◌-◌, rules}
+use Rattle.std.proofs.Common.{rules}
 use Rattle.records.proofs.Zeros.{zeros_end, zeros_hit, zeros_again}
 use Rattle.records.proofs.table.rest_zero.Goals as goal
 

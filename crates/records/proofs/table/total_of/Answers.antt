@@ -1,5 +1,5 @@
 -- `records::table::total_of` meets its contract.
-use Rattle.std.proofs.Common.{◌-◌, rules}
+use Rattle.std.proofs.Common.{rules}
 use Rattle.records.proofs.Totals.{sum_start, sum_end, sum_past, sum_next}
 use Rattle.records.proofs.table.total_of.Goals as goal
 

@@ -6,7 +6,7 @@ use mathlib.Core.List.{List, ◌++◌, append_assoc}
 use native.Mathlib.Omega.{arith}
 use native.Mathlib.Nat.{sub-zero}
 use lib.Dec.{eqb}
-use lib.ListN.{length, take, drop, replicate, length-append, length-drop}
+use lib.ListN.{length, take, drop, replicate, length-append, length-drop, replicate-append-replicate}
 use lib.Seq.{sets, take_all, take_at, drop-append-le}
 use borrow.Author.Tests.{eq-eqb, eqb-true, ne_eqb, le-leb, not-true, not-false}
 use Rattle.address.proofs.Tests.{no, both, and}
@@ -20,7 +20,7 @@ use Rattle.block.specs.declared.Header.{Header}
 use Rattle.block.specs.Block.{edition_one, current, capacity, offset, block_length, Contents, fresh_contents, header_bytes, header_of, block_bytes, read_header, contents, good_table, good_contents, good}
 use Rattle.block.proofs.Layouts.{small_one, small_current}
 use Rattle.block.proofs.Headers.{sets_header}
-use Rattle.block.proofs.Blocks.{table_longer, direction_ok, tables_ok, room, lists_ok, good_contents_lem, good_length, counted_room}
+use Rattle.block.proofs.Blocks.{direction_ok, tables_ok, room, lists_ok, good_contents_lem, good_length, counted_room}
 use Rattle.block.proofs.Reading.{Spellable, contents_spelled, good_spelled_block, good_spellable, good_header, good_tables}
 use Rattle.block.proofs.Kept.{good_bytes}
 use Rattle.range.specs.Outcomes.{outcome, done_with}
@@ -109,6 +109,13 @@ module _ (old : List ℕ) (l : Layout) (is : l ≡ edition_one) (g : Bool) (q : 
 
 -- ---- the same in more room
 
+-- a longer table is the shorter one and zeros
+longer : (c d : ℕ) (xs : List Region) → length xs ≤ c → table_bytes (c + d) xs ≡ table_bytes c xs ++ replicate (24 * d) 0
+unfolding table_bytes
+longer c d xs l =
+    let e : 24 * (c + d - length xs) ≡ 24 * (c - length xs) + 24 * d = omega arith in
+    rw (e, append_assoc, replicate-append-replicate)
+
 module _ (old : List ℕ) (g : good edition_one old ≡ true) where
   good_now : good_contents current (contents edition_one old) ≡ true
   unfolding good_contents good_table capacity
@@ -141,7 +148,7 @@ module _ (old : List ℕ) (g : good edition_one old ≡ true) where
       let r : length s.taken ≤ 128 = room edition_one s (good_contents_lem edition_one old g) Taken in
       let e : h ≡ header_of s = eh ∙ good_header edition_one small_one old bs g in
       ez ∙ rw (el, e) (sets_header current (header_of s) y ly)
-      ∙ ap (λ (w : List ℕ). header_bytes current (header_of s) ++ w) (d ∙ rw (t, append_assoc, ← table_longer 128 384 s.taken r))
+      ∙ ap (λ (w : List ℕ). header_bytes current (header_of s) ++ w) (d ∙ rw (t, append_assoc, ← longer 128 384 s.taken r))
 
 -- ---- the answers, in the code's form
 

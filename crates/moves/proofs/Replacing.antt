@@ -1,5 +1,5 @@
 -- Records put in the place of others: the rest is moved, and the table spells the new list. Assumes nothing.
-use Prim.Native.Nat.{ℕ, ◌+◌, ◌*◌, ◌-◌, ◌/◌, ◌≤◌, ◌<◌}
+use Prim.Native.Nat.{ℕ, zero, suc, ◌+◌, ◌*◌, ◌-◌, ◌/◌, ◌≤◌, ◌<◌}
 use mathlib.Core.Path.{◌≡◌, refl, sym, ap, ap₂, ◌∙◌}
 use mathlib.Core.Bool.{true}
 use mathlib.Core.List.{List, [], ◌∷◌, ◌++◌, append_assoc, append-nil}
@@ -13,7 +13,7 @@ use Rattle.regions.proofs.Numbers.{Bytes, bytes_drop, sets_append}
 use Rattle.regions.proofs.Records.{Fit, region_bytes_length, put_here, regions_bytes_read, read_regions_length}
 use Rattle.records.specs.Checks.{all_zeros}
 use Rattle.records.specs.Steps.{put}
-use Rattle.records.proofs.Zeros.{zeros_replicate, drop_zeros}
+use Rattle.records.proofs.Zeros.{zeros_replicate}
 use Rattle.records.proofs.Placing.{take_read, drop_read}
 use Rattle.moves.proofs.Moving.{rest, take_sets}
 
@@ -69,6 +69,11 @@ module _ (t : List ℕ) (count stop new : ℕ) (h : stop ≤ count) (r : 24 * co
       ap (λ (y : List ℕ). take left t' ++ (y ++ drop (end - left) (drop left t'))) z ∙ sym (sets_zeros t' left (end - left) (omega arith))
       ∙ sets_two t t' c (replicate (end - left) 0) (24 * new) left e' o ∙ ap (λ (y : ℕ). sets t (24 * new) (c ++ replicate y 0)) (sym m)
 
+drop_replicate : (k n : ℕ) → drop k (replicate {A = ℕ} n 0) ≡ replicate (n - k) 0
+drop_replicate zero n = rw sub-zero
+drop_replicate (suc k) zero = let e : 0 - suc k ≡ 0 = omega arith in rw e
+drop_replicate (suc k) (suc n) = let e : suc n - suc k ≡ n - k = omega arith in drop_replicate k n ∙ rw e
+
 -- ---- and the new records put before it
 
 module _ (t src : List ℕ) (count first stop n : ℕ) (a : first ≤ stop) (b : stop ≤ count) (r : 24 * count ≤ length t) (s : 24 * (count - stop + (first + n)) ≤ length t)
@@ -85,7 +90,7 @@ module _ (t src : List ℕ) (count first stop n : ℕ) (a : first ≤ stop) (b :
       let e : 24 * count + (i - 24 * count) ≡ i = omega arith in
       let f : length (drop (24 * count) t) - (i - 24 * count) ≡ length t - i = simp length-drop (omega arith) in
       ap (λ (y : ℕ). drop y t) (sym e) ∙ sym (drop-drop (i - 24 * count) (24 * count) t)
-      ∙ ap (drop (i - 24 * count)) (zeros_replicate (drop (24 * count) t) z) ∙ drop_zeros (i - 24 * count) (length (drop (24 * count) t)) ∙ ap (λ (y : ℕ). replicate y 0) f
+      ∙ ap (drop (i - 24 * count)) (zeros_replicate (drop (24 * count) t) z) ∙ drop_replicate (i - 24 * count) (length (drop (24 * count) t)) ∙ ap (λ (y : ℕ). replicate y 0) f
 
   -- how many bytes are left behind
   more : ℕ

@@ -66,6 +66,21 @@ module _ (L : Layout) (is : L ≡ current) (b : List ℕ) (q : Query) (g : Bool)
   pub check_good : not g ≡ false → (n : ℕ) → n ≡ refusal q → n ≡ check_number current q b
   check_good h n e = rw (good_here L is b g x h) e
 
+  module _ (h : not g ≡ false) (k : Bool) (y : k ≡ askable q.node q.wish) where
+    pub check_ask : not k ≡ true → 2 ≡ check_number current q b
+    check_ask i = rw (good_here L is b g x h, ← y, not-true k i)
+
+    module _ (i : not k ≡ false) (p : Bool) (z : p ≡ power_of_two q.align.0) where
+      pub check_power : not p ≡ true → 3 ≡ check_number current q b
+      check_power j = rw (good_here L is b g x h, ← y, not-false k i, ← z, not-true p j)
+
+      module _ (j : not p ≡ false) where
+        pub check_size : q.size.0 ≡ 0 → 4 ≡ check_number current q b
+        check_size e = rw (good_here L is b g x h, ← y, not-false k i, ← z, not-false p j, eq-eqb q.size.0 0 e)
+
+        pub check_fine : (q.size.0 ≡ 0 → ⊥) → 0 ≡ check_number current q b
+        check_fine e = rw (good_here L is b g x h, ← y, not-false k i, ← z, not-false p j, ne_eqb q.size.0 0 e)
+
 -- the number is 0 where the block is good, the node and the wish may be asked for, the alignment a power of two and the size not 0
 passed : (g k p z : Bool) → ◌≡◌ {A = ℕ} (cond g (cond k (cond p (cond z 4 0) 3) 2) 1) 0 → ((g ≡ true) × (k ≡ true)) × ((p ≡ true) × (z ≡ false))
 passed false k p z e = absurd (omega arith)

@@ -154,6 +154,8 @@ fn main() {
     desk::watch(options.patience);
     let desk = &mut Desk::new(options.seed);
     desk.without_model = options.without_model;
+    // The plans' calls come beside those that are asked for.
+    let mut beside = 0;
     for &part in &options.parts {
         desk.part = part;
         desk.turn = 0;
@@ -169,15 +171,19 @@ fn main() {
             "orders" => orders(desk, options.share(4)),
             "lengths" => lengths(desk, &there, options.share(4)),
             "editions" => editions(desk, &there, options.share(3)),
-            "damage" => damage(desk, &there, options.share(9)),
+            "damage" => damage(desk, &there, options.share(13)),
             "pages" => pages(desk, options.share(3)),
             "alone" => alone(desk, options.share(3)),
-            "plans" => plans(desk, options.share(3)),
+            "plans" => {
+                let before = desk.calls;
+                plans(desk, options.share(3));
+                beside = desk.calls - before;
+            }
             "trees" => trees(desk, options.share(6)),
             "pairs" => pairs(desk, options.share(6)),
             "faults" => faults(desk, &there, options.share(8)),
             "fills" => fills(desk, &there, options.share(22)),
-            _ => walks(desk, options.calls.saturating_sub(desk.calls)),
+            _ => walks(desk, (options.calls + beside).saturating_sub(desk.calls)),
         }
     }
     if !options.whole() {

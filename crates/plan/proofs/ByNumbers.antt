@@ -1,11 +1,10 @@
 -- The walk over lines given by their numbers. Assumes nothing.
-use Prim.Native.Nat.{ℕ, zero, suc, ◌+◌, ◌-◌, ◌≤◌, ◌<◌, min}
-use native.Mathlib.Nat.{sub-zero}
-use native.Mathlib.Numerals.{add-one}
+use Prim.Native.Nat.{ℕ, zero, suc, ◌+◌, ◌≤◌, ◌<◌, min}
+use native.Mathlib.Nat.{not-suc-le-zero, le_of_suc-le-suc}
 use mathlib.Core.Path.{◌≡◌, refl, sym, ap, ◌∙◌}
 use mathlib.Core.List.{List}
 use native.Mathlib.Omega.{arith}
-use lib.ListN.{length}
+use lib.ListN.{length, get_or}
 use Rattle.block.specs.Block.{current}
 use Rattle.plan.specs.Answers.{Answer}
 use Rattle.plan.specs.declared.Line.{Line}
@@ -13,8 +12,8 @@ use Rattle.plan.specs.declared.Seen.{Seen}
 use Rattle.plan.specs.Plan.{plan}
 use Rattle.plan.specs.Numbers.{Numbers, line_of, lines_from, count_of, lines_of}
 use Rattle.plan.specs.Steps.{begun, judged, judged_all, ended, Going, Placeable}
-use Rattle.plan.proofs.Judging.{going_one, going_on, going_begun}
-use Rattle.plan.proofs.Whole.{placeable_all, ended_all}
+use Rattle.plan.proofs.Judging.{going_begun}
+use Rattle.plan.proofs.ByLines.{Walked, walked_start, walked_end, walked_asks, walked_next, lines_placeable, lines_ended}
 
 -- the shortest of the lists, one after the other
 pub count_is : (x : Numbers) (a b c d e f : ℕ) → a ≡ min (length x.wishes) (length x.ats) → b ≡ min (length x.nodes) a → c ≡ min (length x.ends) b
@@ -22,57 +21,53 @@ pub count_is : (x : Numbers) (a b c d e f : ℕ) → a ≡ min (length x.wishes)
 unfolding count_of
 count_is x a b c d e f p q r s t u = u ∙ rw (t, s, r, q, p)
 
-module _ (b : List ℕ) (x : Numbers) (n : ℕ) (s₀ : Seen) where
-  -- after i lines
-  pub record After (s : Seen) (i : ℕ) : Type 0 where
-    pub going : Going b s (n - i)
-    pub left : judged_all b s (lines_from x i (n - i)) ≡ judged_all b s₀ (lines_from x 0 n)
+-- the lines that the numbers give are as many as the shortest list has, each that of its index
+lines_length : (x : Numbers) (m i : ℕ) → length (lines_from x i m) ≡ m
+unfolding lines_from
+lines_length x zero i = refl
+lines_length x (suc m) i = ap suc (lines_length x m (suc i))
 
-  pub after_start : Going b s₀ n → After s₀ 0
-  after_start w = record { going = rw (sub-zero n) w; left = rw (sub-zero n) }
+line_there : (x : Numbers) (d : Line) (m i j : ℕ) → j < m → get_or (lines_from x i m) j d ≡ line_of x (i + j)
+unfolding lines_from
+line_there x d zero i j l = absurd (not-suc-le-zero l)
+line_there x d (suc m) i zero l = let e : i ≡ i + 0 = omega arith in ap (line_of x) e
+line_there x d (suc m) i (suc j) l = let e : suc i + j ≡ i + suc j = omega arith in line_there x d m (suc i) j (le_of_suc-le-suc l) ∙ ap (line_of x) e
 
-  pub after_end : n ≡ count_of x → (s : Seen) (i : ℕ) → After s i → n ≤ i → s ≡ judged_all b s₀ (lines_of x)
-  unfolding lines_from
-  after_end e s i v h =
-      let z : n - i ≡ 0 = omega arith in
-      let k : s ≡ judged_all b s₀ (lines_from x 0 n) = rw z at v.left in
-      k ∙ ap (λ (m : ℕ). judged_all b s₀ (lines_from x 0 m)) e
+-- the walk over them is that over a slice of these lines
+module _ (b : List ℕ) (x : Numbers) (n : ℕ) (e : n ≡ count_of x) (s₀ : Seen) where
+  as_many : n ≡ length (lines_of x)
+  as_many = e ∙ sym (lines_length x (count_of x) 0)
 
-  module _ (s : Seen) (i : ℕ) (v : After s i) (l : i < n) where
-    one_more : n - i ≡ suc (n - (i + 1))
-    one_more = omega arith
+  pub numbers_start : Going b s₀ n → Walked b (lines_of x) s₀ s₀ 0
+  numbers_start w = walked_start b (lines_of x) s₀ (rw as_many at w)
 
-    left_going : Going b s (suc (n - (i + 1)))
-    left_going = rw one_more at v.going
+  module _ (s : Seen) (i : ℕ) (v : Walked b (lines_of x) s₀ s i) where
+    pub numbers_end : n ≤ i → s ≡ judged_all b s₀ (lines_of x)
+    numbers_end h = walked_end b (lines_of x) s₀ s i v (rw as_many at h)
 
-    pub after_asks : Going b s 1
-    after_asks = going_one b s (n - (i + 1)) left_going
+    module _ (l : i < n) where
+      pub numbers_asks : Going b s 1
+      numbers_asks = walked_asks b (lines_of x) s₀ s i v (rw as_many at l)
 
-    pub after_next : (k : Line) → k ≡ line_of x i → (z : Seen) → z ≡ judged b s k → After z (i + 1)
-    unfolding lines_from
-    after_next k e z f =
-        let w : z ≡ judged b s (line_of x i) = f ∙ ap (judged b s) e in
-        let y : judged_all b (judged b s (line_of x i)) (lines_from x (suc i) (n - (i + 1))) ≡ judged_all b s₀ (lines_from x 0 n) = rw one_more at v.left in
-        record { going = rw w (going_on b s (line_of x i) (n - (i + 1)) left_going); left = rw w (rw (← add-one i) at y) }
+      pub numbers_next : (k : Line) → k ≡ line_of x i → (z : Seen) → z ≡ judged b s k → Walked b (lines_of x) s₀ z (i + 1)
+      numbers_next k h y f =
+          let j : i < count_of x = rw e at l in
+          let z : 0 + i ≡ i = omega arith in
+          let w : k ≡ get_or (lines_of x) i k = h ∙ sym (line_there x k (count_of x) 0 i j ∙ ap (line_of x) z) in
+          walked_next b (lines_of x) s₀ s i v (rw as_many at l) k y (f ∙ ap (judged b s) w)
 
 -- the whole of it
 module _ (b : List ℕ) (x : Numbers) (n : ℕ) (e : n ≡ count_of x) (s : Seen) (f : s ≡ begun b n) where
   pub numbers_going : Going b s n
   numbers_going = rw f (going_begun b n)
 
-  lines_length : (m i : ℕ) → length (lines_from x i m) ≡ m
-  unfolding lines_from
-  lines_length zero i = refl
-  lines_length (suc m) i = ap suc (lines_length m (suc i))
+  -- as many lines as numbers
+  begun_lines : s ≡ begun b (length (lines_of x))
+  begun_lines = f ∙ ap (begun b) (as_many b x n e s)
 
   module _ (z : Seen) (w : z ≡ judged_all b s (lines_of x)) where
-    all_is : z ≡ judged_all b (begun b (length (lines_of x))) (lines_of x)
-    all_is =
-        let k : n ≡ length (lines_of x) = e ∙ sym (lines_length (count_of x) 0) in
-        w ∙ ap (λ (y : Seen). judged_all b y (lines_of x)) (f ∙ ap (begun b) k)
-
     pub numbers_placeable : Placeable b z
-    numbers_placeable = rw all_is (placeable_all b (lines_of x))
+    numbers_placeable = lines_placeable b (lines_of x) s begun_lines z w
 
     pub numbers_ended : (a : Answer) → a ≡ ended b z → a ≡ plan current (lines_of x) b
-    numbers_ended a k = k ∙ ap (ended b) all_is ∙ ended_all b (lines_of x)
+    numbers_ended = lines_ended b (lines_of x) s begun_lines z w

@@ -1,16 +1,16 @@
 -- `plan::walk_numbers` meets its contract.
-use Rattle.plan.proofs.ByNumbers.{after_start, after_asks, after_next, after_end}
+use Rattle.plan.proofs.ByNumbers.{numbers_start, numbers_asks, numbers_next, numbers_end}
 use borrow.Author.Rules.{rules}
 use Rattle.plan.proofs.walk_numbers.Goals as goal
 
 pub loop-i-init : goal.loop-i-init
-loop-i-init c = search (after_start, rules)
+loop-i-init c = search (numbers_start, rules)
 
 pub judge-s-requires : goal.judge-s-requires
-judge-s-requires c = search (after_asks, rules)
+judge-s-requires c = search (numbers_asks, rules)
 
 pub loop-i-preserved : goal.loop-i-preserved
-loop-i-preserved c = search (after_next, rules)
+loop-i-preserved c = search (numbers_next, rules)
 
 pub returns : goal.returns
-returns c = search (after_end, rules)
+returns c = search (numbers_end, rules)

@@ -1,25 +1,23 @@
 -- Whole numbers as addresses and sizes of 64 bits; rounding; powers of two. Assumes nothing.
-use Rattle.std.specs.Prelude.{ℕ, zero, suc, ◌+◌, ◌-◌, ◌%◌, ◌^◌, Bool, false, cond, ◌||◌, leb, ltb, eqb}
-use Rattle.address.specs.declared.CheckedAddress.{CheckedAddress}
-use Rattle.address.specs.declared.CheckedSize.{CheckedSize}
-use Rattle.address.specs.declared.CheckedAddress.TheVariants as Address
-use Rattle.address.specs.declared.CheckedSize.TheVariants as Size
+use Rattle.std.specs.Prelude.{ℕ, zero, suc, ◌+◌, ◌-◌, ◌%◌, ◌^◌, Bool, false, cond, ◌||◌, leb, ltb, eqb, Option, Some, None}
+use Rattle.address.specs.declared.Address.{Address}
+use Rattle.address.specs.declared.Size.{Size}
 
 -- what is made of the whole number n, if it is at most 2^64 - 1; otherwise other
 unfoldable pub if_small : {A : Type 0} → (ℕ → A) → A → ℕ → A
 if_small make other n = cond (ltb n (2 ^ 64)) (make n) other
 
 -- n as an address, if it is one
-abbrev pub address : ℕ → CheckedAddress
-address n = if_small (λ x. Address.At (record { 0 = x })) Address.Outside n
+abbrev pub address : ℕ → Option Address
+address n = if_small (λ x. Some (record { 0 = x })) None n
 
 -- n as a size, if it is one
-abbrev pub size : ℕ → CheckedSize
-size n = if_small (λ x. Size.Of (record { 0 = x })) Size.Outside n
+abbrev pub size : ℕ → Option Size
+size n = if_small (λ x. Some (record { 0 = x })) None n
 
 -- n less k as an address, if k is not the larger
-unfoldable pub difference : ℕ → ℕ → CheckedAddress
-difference n k = cond (leb k n) (Address.At (record { 0 = n - k })) Address.Outside
+unfoldable pub difference : ℕ → ℕ → Option Address
+difference n k = cond (leb k n) (Some (record { 0 = n - k })) None
 
 -- n rounded down to a multiple of k
 abbrev pub down : ℕ → ℕ → ℕ

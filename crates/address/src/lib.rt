@@ -1,30 +1,16 @@
 // Addresses and sizes: two types that cannot change places, with their sums and differences, rounding and the power-of-two test.
 #![tactic(auto)]
 
-ghost use Rattle.std.specs.Prelude.{◌≡◌, true, ◌+◌, ◌-◌, ◌%◌, ◌≤◌, ◌<◌, min, max};
+ghost use Rattle.std.specs.Prelude.{SomeIff, ◌^◌, ◌≡◌, true, ◌+◌, ◌-◌, ◌%◌, ◌≤◌, ◌<◌, min, max};
 ghost use Rattle.address.specs.Numbers.{up as round_up, down as round_down, power_of_two, address, difference, size};
 
 // A place in memory, 0 to 2^64 - 1.
-#[derive(Clone, Copy)]
+#[derive(Clone, Copy, PartialEq, Eq, PartialOrd, Ord)]
 pub struct Address(pub u64);
 
 // A number of addresses, 0 to 2^64 - 1.
-#[derive(Clone, Copy)]
+#[derive(Clone, Copy, PartialEq, Eq, PartialOrd, Ord)]
 pub struct Size(pub u64);
-
-// A whole number as an address, where it is one.
-#[derive(Clone, Copy)]
-pub enum CheckedAddress {
-    At(Address),
-    Outside,
-}
-
-// A whole number as a size, where it is one.
-#[derive(Clone, Copy)]
-pub enum CheckedSize {
-    Of(Size),
-    Outside,
-}
 
 // What `x` is past the multiple of a power of two below it.
 fn remainder(x: u64, by: u64) -> u64
@@ -40,6 +26,18 @@ pub fn round_down(x: u64, by: u64) -> u64
     ensures { result ≡ round_down x by }
 {
     x - remainder(x, by)
+}
+
+// The multiple of a power of two at or above `x`, if it is a number of 64 bits.
+fn round_up(x: u64, by: u64) -> Option<u64>
+    requires { power_of_two by ≡ true }
+    ensures { SomeIff result (round_up x by < 2 ^ 64) (round_up x by) }
+{
+    let over = remainder(x, by);
+    if over == 0 {
+        return Some(x);
+    }
+    x.checked_add(by - over)
 }
 
 impl Address {
@@ -68,35 +66,25 @@ impl Address {
     }
 
     // The address `by` further on, if it exists.
-    pub fn plus(self, by: Size) -> CheckedAddress
+    pub fn plus(self, by: Size) -> Option<Address>
         ensures { result ≡ address (self.0 + by.0) }
     {
-        if 0xFFFF_FFFF_FFFF_FFFF - self.0 < by.0 {
-            return CheckedAddress::Outside;
-        }
-        CheckedAddress::At(self.add(by))
+        Some(Address(self.0.checked_add(by.0)?))
     }
 
     // The address `by` further back, if it exists.
-    pub fn minus(self, by: Size) -> CheckedAddress
+    pub fn minus(self, by: Size) -> Option<Address>
         ensures { result ≡ difference self.0 by.0 }
     {
-        if self.0 < by.0 {
-            return CheckedAddress::Outside;
-        }
-        CheckedAddress::At(self.sub(by))
+        Some(Address(self.0.checked_sub(by.0)?))
     }
 
     // The lowest multiple of `by`, a power of two, at or above.
-    pub fn up(self, by: Size) -> CheckedAddress
+    pub fn up(self, by: Size) -> Option<Address>
         requires { power_of_two by.0 ≡ true }
         ensures { result ≡ address (round_up self.0 by.0) }
     {
-        let over = remainder(self.0, by.0);
-        if over == 0 {
-            return CheckedAddress::At(self);
-        }
-        self.plus(Size(by.0 - over))
+        Some(Address(round_up(self.0, by.0)?))
     }
 
     // The highest multiple of `by`, a power of two, at or below.
@@ -107,7 +95,7 @@ impl Address {
         Address(round_down(self.0, by.0))
     }
 
-    // The higher of the two.
+    // The higher of the two. By hand: with that of the derived order, which goes by `cmp`, the walks of a search take up to a quarter longer.
     pub fn max(self, other: Address) -> Address
         ensures { result.0 ≡ max self.0 other.0 }
     {
@@ -115,6 +103,7 @@ impl Address {
     }
 
     // The lower of the two.
+    // By hand, as `max` is.
     pub fn min(self, other: Address) -> Address
         ensures { result.0 ≡ min self.0 other.0 }
     {
@@ -122,6 +111,7 @@ impl Address {
     }
 }
 
+// Sums and rounding as of addresses, on the other type: a trait for both, with a law for each, would be longer than these lines.
 impl Size {
     // Both together, which is a size.
     pub fn add(self, more: Size) -> Size
@@ -140,25 +130,18 @@ impl Size {
     }
 
     // Both together, if that is a size.
-    pub fn plus(self, more: Size) -> CheckedSize
+    pub fn plus(self, more: Size) -> Option<Size>
         ensures { result ≡ size (self.0 + more.0) }
     {
-        if 0xFFFF_FFFF_FFFF_FFFF - self.0 < more.0 {
-            return CheckedSize::Outside;
-        }
-        CheckedSize::Of(self.add(more))
+        Some(Size(self.0.checked_add(more.0)?))
     }
 
     // The least multiple of `by` that is no less.
-    pub fn up(self, by: Size) -> CheckedSize
+    pub fn up(self, by: Size) -> Option<Size>
         requires { power_of_two by.0 ≡ true }
         ensures { result ≡ size (round_up self.0 by.0) }
     {
-        let over = remainder(self.0, by.0);
-        if over == 0 {
-            return CheckedSize::Of(self);
-        }
-        self.plus(Size(by.0 - over))
+        Some(Size(round_up(self.0, by.0)?))
     }
 
     // The greatest multiple of `by` that is no more.
@@ -173,6 +156,6 @@ impl Size {
     pub fn power_of_two(self) -> bool
         ensures { result ≡ power_of_two self.0 }
     {
-        u64::count_ones(self.0) == 1
+        self.0.is_power_of_two()
     }
 }

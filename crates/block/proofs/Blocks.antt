@@ -23,8 +23,7 @@ use Rattle.block.specs.declared.Header.{Header}
 use Rattle.block.specs.Block.{current, capacity, offset, block_length, Contents, list_of, header_bytes, header_of, block_bytes, read_header, part, contents, same_bytes, good_table, good_contents, good}
 use Rattle.records.specs.Checks.{all_zeros, good_part, checked_table}
 use Rattle.block.specs.Checks.{with_totals, tally_of}
-use Rattle.records.specs.declared.table.Checked.{Checked}
-use Rattle.records.specs.declared.table.Checked.TheVariants.{Total, Bad}
+use Rattle.std.specs.Prelude.{Option, Some, None}
 use Rattle.records.proofs.Zeros.{zeros_replicate, replicate_zeros}
 use Rattle.block.proofs.Same.{same_self, same_true}
 use Rattle.block.proofs.Headers.{header_length}
@@ -229,20 +228,20 @@ module _ (L : Layout) (b : List ℕ) where
 -- ---- the answers of the check, one by one
 
 -- what a checked part tells
-part_bad : (k : Kind) (n : ℕ) (l : List ℕ) (x : Checked) → x ≡ checked_table k n l → x ≡ Bad → good_part k n l ≡ false
+part_bad : (k : Kind) (n : ℕ) (l : List ℕ) (x : Option Size) → x ≡ checked_table k n l → x ≡ None → good_part k n l ≡ false
 unfolding checked_table
 part_bad k n l x e f = go (good_part k n l) e
   where
-    go : (b : Bool) → x ≡ cond b (Total (record { 0 = total (at (read_regions n l)) top })) Bad → b ≡ false
+    go : (b : Bool) → x ≡ cond b (Some (record { 0 = total (at (read_regions n l)) top })) None → b ≡ false
     go true g = absurd (zero_not_one cc)
     go false g = refl
 
-part_total : (k : Kind) (n : ℕ) (l : List ℕ) (x : Checked) (s : Size) → x ≡ checked_table k n l → x ≡ Total s
+part_total : (k : Kind) (n : ℕ) (l : List ℕ) (x : Option Size) (s : Size) → x ≡ checked_table k n l → x ≡ Some s
     → (good_part k n l ≡ true) × (s ≡ record { 0 = total (at (read_regions n l)) top })
 unfolding checked_table
 part_total k n l x s e f = go (good_part k n l) e
   where
-    go : (b : Bool) → x ≡ cond b (Total (record { 0 = total (at (read_regions n l)) top })) Bad → (b ≡ true) × (s ≡ record { 0 = total (at (read_regions n l)) top })
+    go : (b : Bool) → x ≡ cond b (Some (record { 0 = total (at (read_regions n l)) top })) None → (b ≡ true) × (s ≡ record { 0 = total (at (read_regions n l)) top })
     go true g = (refl, cc)
     go false g = absurd (zero_not_one cc)
 
@@ -255,7 +254,7 @@ module _ (L : Layout) (b : List ℕ) where
     unfolding contents
     bad_direction l = sym (no (good L b) (λ g. let d = direction_ok L (contents L b) (good_contents_lem L b g) in omega (arith, ap (λ (y : Header). y.settings.direction) r)))
 
-    pub bad_memory : (x : Checked) → x ≡ checked_table Memory h.memory.count (take (80 + 24 * L.memory - 80) (drop 80 b)) → x ≡ Bad → false ≡ good L b
+    pub bad_memory : (x : Option Size) → x ≡ checked_table Memory h.memory.count (take (80 + 24 * L.memory - 80) (drop 80 b)) → x ≡ None → false ≡ good L b
     unfolding contents capacity offset
     bad_memory x f z =
         let e : 80 + 24 * L.memory - 80 ≡ 24 * L.memory = omega arith in
@@ -263,8 +262,8 @@ module _ (L : Layout) (b : List ℕ) where
         (λ g. clash (good_part Memory (read_header b).memory.count (part L Memory b)) (part_good L b g Memory (read_header b).memory.count refl)
         (part_bad Memory (read_header b).memory.count (part L Memory b) x (rw (e, r) at f) z)))
 
-    pub bad_taken : (x : Checked)
-        → x ≡ checked_table Taken h.taken.count (take (80 + 24 * L.memory + 24 * L.taken - (80 + 24 * L.memory)) (drop (80 + 24 * L.memory) b)) → x ≡ Bad
+    pub bad_taken : (x : Option Size)
+        → x ≡ checked_table Taken h.taken.count (take (80 + 24 * L.memory + 24 * L.taken - (80 + 24 * L.memory)) (drop (80 + 24 * L.memory) b)) → x ≡ None
         → false ≡ good L b
     unfolding contents capacity offset
     bad_taken x f z =
@@ -274,8 +273,8 @@ module _ (L : Layout) (b : List ℕ) where
         (part_bad Taken (read_header b).taken.count (part L Taken b) x (rw (e, r) at f) z)))
 
     pub good_rest : Bytes b → (n : ℕ) → length b ≡ n → n ≡ block_length L → h.settings.direction ≤ 1
-        → (x : Checked) (mt : Size) → x ≡ checked_table Memory h.memory.count (take (80 + 24 * L.memory - 80) (drop 80 b)) → x ≡ Total mt
-        → (y : Checked) (kt : Size) → y ≡ checked_table Taken h.taken.count (take (80 + 24 * L.memory + 24 * L.taken - (80 + 24 * L.memory)) (drop (80 + 24 * L.memory) b)) → y ≡ Total kt
+        → (x : Option Size) (mt : Size) → x ≡ checked_table Memory h.memory.count (take (80 + 24 * L.memory - 80) (drop 80 b)) → x ≡ Some mt
+        → (y : Option Size) (kt : Size) → y ≡ checked_table Taken h.taken.count (take (80 + 24 * L.memory + 24 * L.taken - (80 + 24 * L.memory)) (drop (80 + 24 * L.memory) b)) → y ≡ Some kt
         → (t : Bool) → t ≡ same_bytes (take 80 b) (header_bytes L (with_totals (read_header b) mt kt)) → t ≡ good L b
     unfolding checks contents capacity offset
     good_rest bs n l e d x mt ex tx y kt ey ty t et =

@@ -2,7 +2,6 @@ pub mod Blocks
 pub mod Fields
 pub mod Headers
 pub mod Kept
-pub mod ByKind
 pub mod Layouts
 pub mod Reading
 pub mod Same

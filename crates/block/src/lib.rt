@@ -8,7 +8,7 @@ ghost use Rattle.block.specs.Block.{edition_one, current, capacity as capacity_o
 ghost use Rattle.block.specs.Checks.{Small, with_totals, tally_of, with_tally};
 
 use address::{Address, Size};
-use records::table::{Checked, Tally, check_table};
+use records::table::{Records, Tally};
 use regions::Kind;
 use regions::bytes::{get_u32, get_u64, put_u32, put_u64};
 
@@ -26,6 +26,7 @@ pub const FRONT: usize = 3152;
 pub const LENGTH_ONE: usize = 6224;
 
 // Which edition, and how many records each table has room for.
+// The edition is the number in C's header.
 #[derive(Clone, Copy)]
 pub struct Layout {
     pub edition: u32,
@@ -34,6 +35,7 @@ pub struct Layout {
 }
 
 // What a block is set to: searches end by the limit, and where the direction is 1 they go up from the image end (0: none) first.
+// The direction is the field as C's block has it, right or not: `block_good` refuses a number above 1; 0 for no image end is C's number too.
 #[derive(Clone, Copy)]
 pub struct Settings {
     pub limit: Address,
@@ -54,11 +56,9 @@ impl Header {
     pub fn tally(self, kind: Kind) -> Tally
         ensures { result ≡ tally_of self kind }
     {
-        let memory = self.memory;
-        let taken = self.taken;
         match kind {
-            Kind::Memory => memory,
-            Kind::Taken => taken,
+            Kind::Memory => self.memory,
+            Kind::Taken => self.taken,
         }
     }
 
@@ -66,19 +66,14 @@ impl Header {
     pub fn with_tally(self, kind: Kind, tally: Tally) -> Header
         ensures { result ≡ with_tally self kind tally }
     {
-        let memory = self.memory;
-        let taken = self.taken;
-        let settings = self.settings;
         match kind {
             Kind::Memory => Header {
                 memory: tally,
-                taken,
-                settings,
+                ..self
             },
             Kind::Taken => Header {
-                memory,
                 taken: tally,
-                settings,
+                ..self
             },
         }
     }
@@ -86,6 +81,7 @@ impl Header {
 
 impl Layout {
     // Where a table begins.
+    #[tactic(auto, unfolding(crate::specs::Block::offset))]
     pub fn start(self, kind: Kind) -> usize
         requires { Small self }
         ensures { result ≡ offset self kind }
@@ -97,6 +93,7 @@ impl Layout {
     }
 
     // How many records a table has room for.
+    #[tactic(auto, unfolding(crate::specs::Block::capacity))]
     pub fn capacity(self, kind: Kind) -> usize
         ensures { result ≡ capacity_of self kind }
     {
@@ -130,6 +127,7 @@ pub fn edition_one_layout() -> Layout
 }
 
 // A table's entry in the header.
+// Its four numbers are the words of C's header in their order, 1 and 2 the kinds there.
 fn put_entry(s: &mut [u8], at: usize, kind: u32, offset: u32, count: u32, capacity: u32)
     requires { at + 16 ≤ length s.old }
     ensures { s.new ≡ sets s.old at (entry_bytes kind offset count capacity) }
@@ -184,12 +182,9 @@ pub fn put_header(s: &mut [u8], layout: Layout, h: Header)
     requires { (80 ≤ length s.old) × Small layout }
     ensures { s.new ≡ sets s.old 0 (header_bytes layout h) }
 {
-    let settings = h.settings;
-    let memory = h.memory;
-    let taken = h.taken;
-    put_entries(s, layout, memory.count, taken.count);
-    put_settings(s, settings);
-    put_totals(s, memory.total, taken.total, settings.image);
+    put_entries(s, layout, h.memory.count, h.taken.count);
+    put_settings(s, h.settings);
+    put_totals(s, h.memory.total, h.taken.total, h.settings.image);
 }
 
 // What the header's fields hold, right or not.
@@ -214,17 +209,15 @@ pub fn get_header(b: &[u8]) -> Header
     }
 }
 
-// Whether two headers hold the same bytes, eight at a time.
+// Whether two headers hold the same bytes, eight at a time: `==` of the slices goes by bytes, and header_byte_let_through is an edit of this loop.
 fn same_header(a: &[u8], b: &[u8]) -> bool
     requires { (length a.now ≡ 80) × (length b.now ≡ 80) }
     ensures { result ≡ same_bytes a.now b.now }
 {
-    let mut i = 0;
-    while i < 10 {
+    for i in 0..10 {
         if get_u64(a, 8 * i) != get_u64(b, 8 * i) {
             return false;
         }
-        i += 1;
     }
     true
 }
@@ -235,17 +228,16 @@ fn header_right(b: &[u8], layout: Layout, memory: Size, taken: Size) -> bool
     ensures { result ≡ same_bytes (take 80 b.now) (header_bytes layout (with_totals (read_header b.now) memory taken)) }
 {
     let own = get_header(b);
-    let settings = own.settings;
     let right = Header {
         memory: Tally {
-            count: own.memory.count,
             total: memory,
+            ..own.memory
         },
         taken: Tally {
-            count: own.taken.count,
             total: taken,
+            ..own.taken
         },
-        settings,
+        settings: own.settings,
     };
     let mut spelled = [0u8; 80];
     put_header(&mut spelled, layout, right);
@@ -253,6 +245,8 @@ fn header_right(b: &[u8], layout: Layout, memory: Size, taken: Size) -> bool
 }
 
 // Whether the block is good.
+// That is a fact of the bytes in the contracts and no type of its own: C lends the bytes, each call asks anew, and while a command writes them it does not
+// hold.
 pub fn block_good(b: &[u8], layout: Layout) -> bool
     requires { Small layout }
     ensures { result ≡ good layout b.now }
@@ -266,12 +260,18 @@ pub fn block_good(b: &[u8], layout: Layout) -> bool
     if 1 < h.settings.direction {
         return false;
     }
-    let Checked::Total(memory) = check_table(&b[80..middle], h.memory.count as usize, Kind::Memory)
-    else {
+    let memory = Records {
+        bytes: &b[80..middle],
+        count: h.memory.count as usize,
+    };
+    let Some(memory) = memory.check_table(Kind::Memory) else {
         return false;
     };
-    let Checked::Total(taken) = check_table(&b[middle..end], h.taken.count as usize, Kind::Taken)
-    else {
+    let taken = Records {
+        bytes: &b[middle..end],
+        count: h.taken.count as usize,
+    };
+    let Some(taken) = taken.check_table(Kind::Taken) else {
         return false;
     };
     header_right(b, layout, memory, taken)

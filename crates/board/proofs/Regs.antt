@@ -1,33 +1,51 @@
 -- The ranges of a reg and of the reservation list, one by one: what is still to be done on the block so far is what the whole is on the block at the start.
 -- Assumes nothing.
-use Prim.Native.Nat.{ℕ, zero, suc, ◌+◌, ◌-◌, ◌*◌, ◌/◌, ◌≤◌, ◌<◌}
-use mathlib.Core.Path.{◌≡◌, refl, sym, ap, ◌∙◌}
-use mathlib.Core.Bool.{Bool, true, false, cond, ◌&&◌}
-use mathlib.Core.List.{List, [], ◌∷◌}
-use native.Mathlib.Omega.{arith}
+use Rattle.std.proofs.Common.{◌≡◌, ℕ, zero, suc, ◌+◌, ◌-◌, ◌*◌, ◌/◌, ◌≤◌, ◌<◌, Bool, true, false, ◌&&◌, cond, List, [], ◌∷◌, ◌++◌, Result, length, drop, refl, sym, ◌∙◌, arith, length-append, length-drop}
 use lib.Dec.{eqb}
-use lib.ListN.{length, drop, take}
-use lib.Seq.{drop-drop}
-use Rattle.regions.proofs.Items.{items_rest, items_end}
 use Rattle.block.specs.Block.{current}
 use Rattle.range.specs.Outcomes.{Outcome, outcome}
 use Rattle.tables.specs.declared.commands.Verb.{Verb}
 use Rattle.tables.specs.declared.commands.Verb.TheVariants.{Reserve}
-use Rattle.tables.specs.Commands.{command, command_outcome}
+use Rattle.refusals.specs.Numbers.{number}
+use Rattle.refusals.specs.declared.Refusal.{Refusal}
+use Rattle.refusals.specs.declared.Refusal.TheVariants.{Block, Tag, Alignment, Size, Nowhere, Full, Direction, Slip, Report, Tree, NotTaken, Line, Lines}
+use Rattle.tables.specs.Commands.{Command, command, command_outcome}
 use Rattle.intake.specs.Turns.{steps, in_turn}
 use Rattle.intake.proofs.Turns.{commands_refused, commands_next, turn_last}
 use Rattle.tree.specs.Words.{big}
-use Rattle.tree.specs.Header.{Range, pair, pairs, before_end}
-use Rattle.lookup.specs.Values.{Node}
+use Rattle.tree.specs.Header.{Range, pairs, before_end}
 use Rattle.board.specs.declared.ranges.Cells.{Cells}
-use Rattle.values.specs.Names.{reg}
-use Rattle.values.specs.Values.{Get}
-use Rattle.values.specs.Steps.{holds, GotIn}
-use Rattle.values.specs.declared.Got.{Got}
-use Rattle.values.specs.declared.Got.TheVariants.{At, Nothing}
 use Rattle.board.specs.Board.{entries, on_ranges}
-use Rattle.board.specs.Steps.{OneOrTwo, reg_commands}
-use Rattle.values.proofs.Properties.{got_none, got_at_lem}
+use Rattle.board.specs.Steps.{OneOrTwo}
+
+-- ---- answers
+
+abbrev pub Answer : Type 0
+Answer = Result (Unit {0}) Refusal
+
+-- a refusal has a number
+pub refusal_some : (y : Refusal) → number y ≡ 0 → ⊥
+refusal_some Block e = absurd (omega arith)
+refusal_some Tag e = absurd (omega arith)
+refusal_some Alignment e = absurd (omega arith)
+refusal_some Size e = absurd (omega arith)
+refusal_some Nowhere e = absurd (omega arith)
+refusal_some Full e = absurd (omega arith)
+refusal_some Direction e = absurd (omega arith)
+refusal_some Slip e = absurd (omega arith)
+refusal_some Report e = absurd (omega arith)
+refusal_some Tree e = absurd (omega arith)
+refusal_some NotTaken e = absurd (omega arith)
+refusal_some Line e = absurd (omega arith)
+refusal_some Lines e = absurd (omega arith)
+
+-- of two lists of commands, where the first was refused, and where it was done
+module _ (cs ds : List Command) (b b' : List ℕ) where
+  pub refused_first : (y : Refusal) → outcome (number y) b' ≡ in_turn (steps current cs) b → outcome (number y) b' ≡ in_turn (steps current (cs ++ ds)) b
+  refused_first y o = commands_refused cs ds b (number y) b' o (refusal_some y)
+
+  pub done_first : outcome 0 b' ≡ in_turn (steps current cs) b → in_turn (steps current ds) b' ≡ in_turn (steps current (cs ++ ds)) b
+  done_first o = commands_next cs ds b 0 b' o refl
 
 -- ---- ranges in turn
 
@@ -89,90 +107,92 @@ less_none m w eight h = omega arith
 less_none m w twelve h = omega arith
 less_none m w sixteen h = omega arith
 
--- the entries from `at` on
-abbrev pub EntriesFrom : Cells → List ℕ → ℕ → List Range
-EntriesFrom c l at = entries ((length l - at) / (4 * (c.address + c.size))) c.address c.size (drop at l)
+-- the bytes past the first k do not matter
+big_front : (v k : ℕ) (xs ys : List ℕ) → k ≤ length xs → big v k (xs ++ ys) ≡ big v k xs
+unfolding big
+big_front v zero xs ys h = refl
+big_front v (suc k) [] ys h = absurd (omega arith)
+big_front v (suc k) (x ∷ xs) ys h = big_front (256 * v + x) k xs ys (omega arith)
 
-pub entries_start : (v : Verb) (c : Cells) (l b : List ℕ)
-    → in_turn (steps current (on_ranges v (entries (length l / (4 * (c.address + c.size))) c.address c.size l))) b ≡ in_turn (steps current (on_ranges v (EntriesFrom c l 0))) b
-entries_start v c l b = let e : length l - 0 ≡ length l = omega arith in rw e refl
+drop_front : (k : ℕ) (xs ys : List ℕ) → k ≤ length xs → drop k (xs ++ ys) ≡ drop k xs ++ ys
+drop_front zero xs ys h = refl
+drop_front (suc k) [] ys h = absurd (omega arith)
+drop_front (suc k) (x ∷ xs) ys h = drop_front k xs ys (omega arith)
 
-module _ (v : Verb) (c : Cells) (few : OneOrTwo c) (l : List ℕ) (at : ℕ) (b : List ℕ) (whole : Outcome) (inv : whole ≡ in_turn (steps current (on_ranges v (EntriesFrom c l at))) b) where
-  pub entries_done : length l - at < 4 * (c.address + c.size) → outcome 0 b ≡ whole
+drop_whole : (k : ℕ) (xs ys : List ℕ) → k ≡ length xs → drop k (xs ++ ys) ≡ ys
+drop_whole k [] ys e = rw e refl
+drop_whole zero (x ∷ xs) ys e = absurd (omega arith)
+drop_whole (suc k) (x ∷ xs) ys e = drop_whole k xs ys (omega arith)
+
+-- the entries in bytes that are left
+abbrev pub EntriesIn : Cells → List ℕ → List Range
+EntriesIn c l = entries (length l / (4 * (c.address + c.size))) c.address c.size l
+
+module _ (v : Verb) (c : Cells) (few : OneOrTwo c) (l : List ℕ) (w : ℕ) (width : w ≡ 4 * (c.address + c.size)) where
+  pub entries_done : length l < w → (b : List ℕ) (whole : Outcome) → whole ≡ in_turn (steps current (on_ranges v (EntriesIn c l))) b → outcome 0 b ≡ whole
   unfolding entries
-  entries_done h = all_done v (EntriesFrom c l at) b whole inv (rw (less_none (length l - at) (4 * (c.address + c.size)) (width_is c few) h) refl)
+  entries_done h b whole inv = all_done v (EntriesIn c l) b whole inv (rw (less_none (length l) (4 * (c.address + c.size)) (width_is c few) (omega (arith, h, width))) refl)
 
-  module _ (h : 4 * (c.address + c.size) ≤ length l - at) (base size : ℕ) (p : base ≡ big 0 (4 * c.address) (drop at l)) (q : size ≡ big 0 (4 * c.size) (drop (at + 4 * c.address) l))
-      (x : ℕ) (b' : List ℕ) (o : outcome x b' ≡ command_outcome current (command v base size) b) where
-    one : EntriesFrom c l at ≡ record { base = base; size = size } ∷ EntriesFrom c l (at + 4 * (c.address + c.size))
+  module _ (x rest : List ℕ) (parts : l ≡ x ++ rest) (k : length x ≡ w) (b : List ℕ) (whole : Outcome)
+      (inv : whole ≡ in_turn (steps current (on_ranges v (EntriesIn c l))) b) (base size : ℕ) (p : base ≡ big 0 (4 * c.address) x)
+      (q : size ≡ big 0 (4 * c.size) (drop (4 * c.address) x)) (b' : List ℕ) where
+    whole_entry : length x ≡ 4 * (c.address + c.size)
+    whole_entry = k ∙ width
+
+    one : EntriesIn c l ≡ record { base = base; size = size } ∷ EntriesIn c rest
     unfolding entries
     one =
-        let e : length l - at - 4 * (c.address + c.size) ≡ length l - (at + 4 * (c.address + c.size)) = omega arith in
-        rw (less_one (length l - at) (4 * (c.address + c.size)) (width_is c few) h, e)
-        (rw (drop-drop (4 * c.address) at l, drop-drop (4 * (c.address + c.size)) at l, ← p, ← q) refl)
+        let m : length l ≡ 4 * (c.address + c.size) + length rest = rw parts (simp length-append (omega (arith, whole_entry))) in
+        let z : length l - 4 * (c.address + c.size) ≡ length rest = omega (arith, m) in
+        let u : length (drop (4 * c.address) x) ≡ 4 * c.size = simp length-drop (omega (arith, whole_entry)) in
+        let f : big 0 (4 * c.address) l ≡ base = rw parts (big_front 0 (4 * c.address) x rest (omega (arith, whole_entry)) ∙ sym p) in
+        let g : big 0 (4 * c.size) (drop (4 * c.address) l) ≡ size =
+        rw (parts, drop_front (4 * c.address) x rest (omega (arith, whole_entry))) (big_front 0 (4 * c.size) (drop (4 * c.address) x) rest (omega (arith, u)) ∙ sym q) in
+        let d : drop (4 * (c.address + c.size)) l ≡ rest = rw parts (drop_whole (4 * (c.address + c.size)) x rest (sym whole_entry)) in
+        rw (less_one (length l) (4 * (c.address + c.size)) (width_is c few) (omega (arith, m)), z, f, g, d) refl
 
-    pub entries_refused : (x ≡ 0 → ⊥) → outcome x b' ≡ whole
-    entries_refused = one_refused v (EntriesFrom c l at) b whole inv (record { base = base; size = size }) _ one x b' o
+    pub entries_refused : (r : Refusal) → outcome (number r) b' ≡ command_outcome current (command v base size) b → outcome (number r) b' ≡ whole
+    entries_refused r o = one_refused v (EntriesIn c l) b whole inv (record { base = base; size = size }) _ one (number r) b' o (refusal_some r)
 
-    pub entries_next : x ≡ 0 → whole ≡ in_turn (steps current (on_ranges v (EntriesFrom c l (at + 4 * (c.address + c.size))))) b'
-    entries_next = one_next v (EntriesFrom c l at) b whole inv (record { base = base; size = size }) _ one x b' o
-
--- ---- a node's reg
-
-module _ (get : Get) (cells : Cells) (v : Verb) (x : Node) (service l : List ℕ) (r : Got) (g : GotIn service l (get x reg) r) (b : List ℕ) where
-  pub no_reg : r ≡ Nothing → outcome 0 b ≡ in_turn (steps current (reg_commands get cells v x)) b
-  unfolding in_turn
-  no_reg e = rw (got_none service l (get x reg) r g e) refl
-
-  module _ (corrected : Bool) (a n : ℕ) (e : r ≡ At corrected a n) (o : Outcome) where
-    by_bytes : (y : List ℕ) → holds service l corrected ≡ y
-        → o ≡ in_turn (steps current (on_ranges v (entries (length (take (a + n - a) (drop a y)) / (4 * (cells.address + cells.size))) cells.address cells.size (take (a + n - a) (drop a y))))) b
-        → o ≡ in_turn (steps current (reg_commands get cells v x)) b
-    by_bytes y h q =
-        let w : a + n - a ≡ n = omega arith in
-        rw (got_at_lem service l (get x reg) r g corrected a n e, h, ← w) q
-
-    pub reg_corrected : corrected ≡ true
-        → o ≡ in_turn (steps current (on_ranges v (entries (length (take (a + n - a) (drop a service)) / (4 * (cells.address + cells.size))) cells.address cells.size (take (a + n - a) (drop a service))))) b
-        → o ≡ in_turn (steps current (reg_commands get cells v x)) b
-    reg_corrected c = by_bytes service (rw c refl)
-
-    pub reg_own : corrected ≡ false
-        → o ≡ in_turn (steps current (on_ranges v (entries (length (take (a + n - a) (drop a l)) / (4 * (cells.address + cells.size))) cells.address cells.size (take (a + n - a) (drop a l))))) b
-        → o ≡ in_turn (steps current (reg_commands get cells v x)) b
-    reg_own c = by_bytes l (rw c refl)
+    pub entries_next : outcome 0 b' ≡ command_outcome current (command v base size) b → whole ≡ in_turn (steps current (on_ranges v (EntriesIn c rest))) b'
+    entries_next o = one_next v (EntriesIn c l) b whole inv (record { base = base; size = size }) _ one 0 b' o refl
 
 -- ---- the reservation list
 
--- the ranges from the i-th pair on
-abbrev pub ListFrom : List ℕ → ℕ → ℕ → List Range
-ListFrom l n i = before_end (pairs (n - i) (drop (16 * i) l))
+-- the ranges in bytes that are left
+abbrev pub ListIn : List ℕ → List Range
+ListIn l = before_end (pairs (length l / 16) l)
 
-pub list_start : (l : List ℕ) (n : ℕ) (b : List ℕ) → in_turn (steps current (on_ranges Reserve (before_end (pairs n l)))) b ≡ in_turn (steps current (on_ranges Reserve (ListFrom l n 0))) b
-list_start l n b = let e : n - 0 ≡ n = omega arith in rw e refl
-
-module _ (l : List ℕ) (n i : ℕ) (b : List ℕ) (whole : Outcome) (inv : whole ≡ in_turn (steps current (on_ranges Reserve (ListFrom l n i))) b) where
-  pub list_over : n ≤ i → outcome 0 b ≡ whole
+module _ (l : List ℕ) (w : ℕ) (width : w ≡ 16) where
+  pub list_over : length l < w → (b : List ℕ) (whole : Outcome) → whole ≡ in_turn (steps current (on_ranges Reserve (ListIn l))) b → outcome 0 b ≡ whole
   unfolding before_end pairs
-  list_over h = all_done Reserve (ListFrom l n i) b whole inv (ap before_end (items_end 16 pair pairs (λ l. refl) (λ m l. refl) i n (drop (16 * i) l) h))
+  list_over h b whole inv = all_done Reserve (ListIn l) b whole inv (rw (less_none (length l) 16 sixteen (omega (arith, h, width))) refl)
 
-  module _ (h : i < n) (base size : ℕ) (p : base ≡ big 0 8 (drop (16 * i) l)) (q : size ≡ big 0 8 (drop (16 * i + 8) l)) where
-    at_pair : ListFrom l n i ≡ cond (eqb base 0 && eqb size 0) [] (record { base = base; size = size } ∷ ListFrom l n (i + 1))
+  module _ (x rest : List ℕ) (parts : l ≡ x ++ rest) (k : length x ≡ w) (b : List ℕ) (whole : Outcome)
+      (inv : whole ≡ in_turn (steps current (on_ranges Reserve (ListIn l))) b) (base size : ℕ) (p : base ≡ big 0 8 x) (q : size ≡ big 0 8 (drop 8 x)) where
+    whole_pair : length x ≡ 16
+    whole_pair = k ∙ width
+
+    at_pair : ListIn l ≡ cond (eqb base 0 && eqb size 0) [] (record { base = base; size = size } ∷ ListIn rest)
     unfolding before_end pairs
     at_pair =
-        ap before_end (items_rest 16 pair pairs (λ l. refl) (λ m l. refl) i n l h)
-        ∙ rw (drop-drop 8 (16 * i) l, ← p, ← q) refl
+        let m : length l ≡ 16 + length rest = rw parts (simp length-append (omega (arith, whole_pair))) in
+        let z : length l - 16 ≡ length rest = omega (arith, m) in
+        let f : big 0 8 l ≡ base = rw parts (big_front 0 8 x rest (omega (arith, whole_pair)) ∙ sym p) in
+        let g : big 0 8 (drop 8 l) ≡ size = rw (parts, drop_front 8 x rest (omega (arith, whole_pair))) (big_front 0 8 (drop 8 x) rest (simp length-drop (omega (arith, whole_pair))) ∙ sym q) in
+        let d : drop 16 l ≡ rest = rw parts (drop_whole 16 x rest (sym whole_pair)) in
+        rw (less_one (length l) 16 sixteen (omega (arith, m)), z, f, g, d) refl
 
     module _ (t : Bool) (is : t ≡ eqb base 0 && eqb size 0) where
       pub list_ended : t ≡ true → outcome 0 b ≡ whole
-      list_ended e = all_done Reserve (ListFrom l n i) b whole inv (at_pair ∙ rw (← is, e) refl)
+      list_ended e = all_done Reserve (ListIn l) b whole inv (at_pair ∙ rw (← is, e) refl)
 
-      module _ (e : t ≡ false) (x : ℕ) (b' : List ℕ) (o : outcome x b' ≡ command_outcome current (command Reserve base size) b) where
-        next_pair : ListFrom l n i ≡ record { base = base; size = size } ∷ ListFrom l n (i + 1)
+      module _ (e : t ≡ false) (b' : List ℕ) where
+        next_pair : ListIn l ≡ record { base = base; size = size } ∷ ListIn rest
         next_pair = at_pair ∙ rw (← is, e) refl
 
-        pub list_refused : (x ≡ 0 → ⊥) → outcome x b' ≡ whole
-        list_refused = one_refused Reserve (ListFrom l n i) b whole inv (record { base = base; size = size }) _ next_pair x b' o
+        pub list_refused : (r : Refusal) → outcome (number r) b' ≡ command_outcome current (command Reserve base size) b → outcome (number r) b' ≡ whole
+        list_refused r o = one_refused Reserve (ListIn l) b whole inv (record { base = base; size = size }) _ next_pair (number r) b' o (refusal_some r)
 
-        pub list_next : x ≡ 0 → whole ≡ in_turn (steps current (on_ranges Reserve (ListFrom l n (i + 1)))) b'
-        list_next = one_next Reserve (ListFrom l n i) b whole inv (record { base = base; size = size }) _ next_pair x b' o
+        pub list_next : outcome 0 b' ≡ command_outcome current (command Reserve base size) b → whole ≡ in_turn (steps current (on_ranges Reserve (ListIn rest))) b'
+        list_next o = one_next Reserve (ListIn l) b whole inv (record { base = base; size = size }) _ next_pair 0 b' o refl

@@ -1,12 +1,7 @@
 -- A board's tree is taken in whole or not at all, alone or corrected by a service tree: refusals in their order, and what is asked of trees that have the
 -- form. Assumes nothing.
-use Prim.Native.Nat.{ℕ, ◌+◌, ◌-◌, ◌*◌, ◌/◌, ◌≤◌, ◌<◌}
-use mathlib.Core.Path.{◌≡◌, refl, sym, ap, ◌∙◌}
-use mathlib.Core.Bool.{Bool, true, false, cond, not, ◌&&◌}
-use mathlib.Core.List.{List, []}
-use native.Mathlib.Omega.{arith}
+use Rattle.std.proofs.Common.{◌≡◌, ℕ, ◌+◌, ◌*◌, ◌/◌, ◌≤◌, ◌<◌, Bool, true, false, ◌&&◌, cond, not, List, [], Option, Some, None, length, refl, sym, ap, ◌∙◌, arith}
 use lib.Dec.{leb, eqb}
-use lib.ListN.{length, take, drop}
 use borrow.Author.Tests.{leb-true}
 use Rattle.block.specs.declared.Layout.{Layout}
 use Rattle.block.specs.Block.{current, good}
@@ -15,19 +10,19 @@ use Rattle.range.specs.Outcomes.{Outcome, outcome}
 use Rattle.tables.specs.Commands.{Command}
 use Rattle.intake.specs.Turns.{steps, wholly}
 use Rattle.tree.specs.Words.{word}
-use Rattle.tree.specs.Tokens.{tokens_up_to}
-use Rattle.tree.specs.Content.{Content, contents}
-use Rattle.tree.specs.Places.{located}
-use Rattle.tree.specs.Header.{structure, strings, listed, pairs, before_end, form, root}
-use Rattle.tree.specs.Steps.{contents_at, valued, content_at, RootOf}
-use Rattle.tree.specs.declared.reader.Root.{Root}
+use Rattle.tree.specs.Content.{Content}
+use Rattle.tree.specs.Header.{structure, strings, root, listed, pairs, before_end, form}
+use Rattle.tree.specs.Steps.{content_at, TreeOf}
+use Rattle.tree.specs.declared.reader.Tree.{Tree}
 use Rattle.tree.proofs.Booleans.{both}
 use Rattle.tree.proofs.Placing.{root_said}
-use Rattle.lookup.specs.Values.{Value, absent, present}
-use Rattle.paths.specs.Lookup.{listing, first_of, lookup}
+use Rattle.lookup.specs.Values.{path, Value, absent, present}
+use Rattle.paths.specs.Lookup.{listing, first_of, or_else, lookup}
+use Rattle.paths.specs.Steps.{InRoot}
+use Rattle.values.specs.declared.Trees.{Trees}
 use Rattle.values.specs.Names.{address_cells, size_cells}
 use Rattle.values.specs.Values.{Get, own, number_or, number_from, root_node, a_cells, s_cells, root_cells}
-use Rattle.values.specs.Steps.{MayCorrect, corrected, gets, cells_of, children_ok}
+use Rattle.values.specs.Steps.{Sources, stands, root_at, corrected, gets, cells_of, children_ok}
 use Rattle.values.proofs.OneByOne.{values_are}
 use Rattle.board.specs.Board.{readable, asks, intake_tree}
 use Rattle.board.specs.Pairs.{readable_pair, asks_pair, intake_trees}
@@ -50,26 +45,32 @@ record Few (d : ℕ) (v : Value) (a : ℕ) : Type 0 where
   some : 0 < a
   few : a ≤ 2
 
-module _ (d : ℕ) (some : 0 < d) (few : d ≤ 2) (v : Value) (a : ℕ) (is : a ≡ cells_of d v) where
-  no_cells : a ≡ 0 → number_from 1 2 v ≡ false
-  no_cells e = go (number_from 1 2 v) refl (sym is ∙ e)
+module _ (d : ℕ) (some : 0 < d) (few : d ≤ 2) (v : Value) (r : Option ℕ) (is : r ≡ cells_of d v) where
+  no_cells : r ≡ None → number_from 1 2 v ≡ false
+  no_cells e = go (number_from 1 2 v) (sym is ∙ e)
     where
-      go : (t : Bool) → number_from 1 2 v ≡ t → cond t (number_or d v) 0 ≡ 0 → t ≡ false
-      go true p q = absurd (omega (arith, (number_some d some few v p).0))
-      go false p q = refl
+      go : (t : Bool) → cond t (Some (number_or d v)) None ≡ None → t ≡ false
+      go true q = cc
+      go false q = refl
 
-  some_cells : (a ≡ 0 → ⊥) → Few d v a
-  some_cells e = go (number_from 1 2 v) refl is
+  some_cells : (a : ℕ) → r ≡ Some a → Few d v a
+  some_cells a e = go (number_from 1 2 v) refl (sym e ∙ is)
     where
-      go : (t : Bool) → number_from 1 2 v ≡ t → a ≡ cond t (number_or d v) 0 → Few d v a
-      go true p q = let n = number_some d some few v p in record { bounds = p; is = q; some = omega (arith, n.0); few = omega (arith, n.1) }
-      go false p q = absurd (e q)
+      go : (t : Bool) → number_from 1 2 v ≡ t → Some a ≡ cond t (Some (number_or d v)) None → Few d v a
+      go true p q =
+          let n = number_some d some few v p in
+          let z : a ≡ number_or d v = cc in
+          record { bounds = p; is = z; some = omega (arith, n.0, z); few = omega (arith, n.1, z) }
+      go false p q = cc
 
--- ---- a tree that has the form: its values, then its commands
+-- ---- trees that have the form: their values, then the board's commands
 
-module _ (get : Get) (names : ℕ) (s : List ℕ) (at : ℕ) (list b : List ℕ) where
+module _ (trees : Trees) (list b : List ℕ) where
   abbrev top : Content
-  top = content_at names s at
+  top = stands trees trees.board.root
+
+  abbrev get : Get
+  get = gets trees
 
   abbrev taken : Outcome
   taken = taking get top list b
@@ -78,20 +79,20 @@ module _ (get : Get) (names : ℕ) (s : List ℕ) (at : ℕ) (list b : List ℕ)
   unfolding taking_ranges
   refused_here h = rw (values_are get top, h) refl
 
-  module _ (a : ℕ) (ea : a ≡ cells_of 2 (get (record { way = []; content = content_at names s at }) address_cells)) where
-    pub no_address : a ≡ 0 → outcome 11 b ≡ taken
-    no_address z = refused_here (rw (no_cells 2 (omega arith) (omega arith) (get (root_node get top) address_cells) a ea z) refl)
+  module _ (x : Option ℕ) (ex : x ≡ cells_of 2 (get (root_at trees trees.board.root) address_cells)) where
+    pub no_address : x ≡ None → outcome 11 b ≡ taken
+    no_address z = refused_here (rw (no_cells 2 (omega arith) (omega arith) (get (root_node get top) address_cells) x ex z) refl)
 
-    module _ (sa : a ≡ 0 → ⊥) (c : ℕ) (ec : c ≡ cells_of 1 (get (record { way = []; content = content_at names s at }) size_cells)) where
+    module _ (a : ℕ) (ea : x ≡ Some a) (y : Option ℕ) (ey : y ≡ cells_of 1 (get (root_at trees trees.board.root) size_cells)) where
       fa : Few 2 (get (root_node get top) address_cells) a
-      fa = some_cells 2 (omega arith) (omega arith) (get (root_node get top) address_cells) a ea sa
+      fa = some_cells 2 (omega arith) (omega arith) (get (root_node get top) address_cells) x ex a ea
 
-      pub no_size : c ≡ 0 → outcome 11 b ≡ taken
-      no_size z = refused_here (rw (fa.bounds, no_cells 1 (omega arith) (omega arith) (get (root_node get top) size_cells) c ec z) refl)
+      pub no_size : y ≡ None → outcome 11 b ≡ taken
+      no_size z = refused_here (rw (fa.bounds, no_cells 1 (omega arith) (omega arith) (get (root_node get top) size_cells) y ey z) refl)
 
-      module _ (sc : c ≡ 0 → ⊥) where
+      module _ (c : ℕ) (ec : y ≡ Some c) where
         fc : Few 1 (get (root_node get top) size_cells) c
-        fc = some_cells 1 (omega arith) (omega arith) (get (root_node get top) size_cells) c ec sc
+        fc = some_cells 1 (omega arith) (omega arith) (get (root_node get top) size_cells) y ey c ec
 
         pub few_cells : OneOrTwo (record { address = a; size = c })
         few_cells = record { some_address = fa.some; few_address = fa.few; some_size = fc.some; few_size = fc.few }
@@ -102,41 +103,42 @@ module _ (get : Get) (names : ℕ) (s : List ℕ) (at : ℕ) (list b : List ℕ)
         same_width : 4 * (a_cells get top + s_cells get top) ≡ 4 * (a + c)
         same_width = rw (← fa.is, ← fc.is) refl
 
-        module _ (t : Bool) (et : t ≡ children_ok get (4 * (a + c)) (content_at names s at)) where
+        module _ (t : Bool) (et : t ≡ children_ok get (4 * (a + c)) (stands trees trees.board.root)) where
           pub bad_values : t ≡ false → outcome 11 b ≡ taken
           bad_values z = refused_here (rw (cells_hold, same_width, ← et, z) refl)
 
-          pub good_values : t ≡ true → (o : Outcome) → o ≡ wholly (steps current (turns get (record { address = a; size = c }) list (content_at names s at))) b → o ≡ taken
+          pub good_values : t ≡ true → (o : Outcome)
+              → o ≡ wholly (steps current (turns get (record { address = a; size = c }) list (stands trees trees.board.root))) b → o ≡ taken
           unfolding taking_ranges
           good_values z o eo =
               rw (values_are get top, cells_hold, same_width, ← et, z)
               (eo ∙ ap (λ (cs : List Command). wholly (steps current cs) b)
               (sym (commands_are get (record { address = a; size = c }) top fa.is fc.is list)))
 
--- ---- the board's root, and the service tree's
+-- ---- opened trees
 
-module _ (tree : List ℕ) (f : form tree ≡ true) (st s : List ℕ) (p : st ≡ strings tree) (q : s ≡ structure tree) (r : Root) (k : RootOf st s r) where
-  top_is : content_at r.names s r.at ≡ root tree
-  top_is = sym (rw (← p, ← q) (root_said st s r k))
+-- what is got first at a node's path in a tree, by its strings and what stands in its root
+abbrev first_match : List ℕ → Content → Get → Get
+first_match strings top get n name = or_else (first_of (path n.way) name (listing strings [] top)) (get n name)
+
+module _ (bytes : List ℕ) (t : Tree) (o : TreeOf bytes t) where
+  pub rooted : InRoot t
+  rooted = record { within = rw o.root.bytes_are o.root.is.within; goes = rw o.root.bytes_are o.root.goes }
+
+  says : content_at t.structure.names t.structure.bytes.now t.root ≡ root bytes
+  says = rw o.root.bytes_are (sym (root_said (strings bytes) (structure bytes) t o.root))
+
+module _ (board : List ℕ) (t : Tree) (o : TreeOf board t) where
+  pub alone_read : Sources (record { service = None; board = t })
+  alone_read = record { service = tt; short = o.short }
+
+  pub pair_read : (service : List ℕ) (s : Tree) → TreeOf service s → Sources (record { service = Some s; board = t })
+  pair_read service s q = record { service = rooted service s q; short = o.short }
 
   -- of the board
-  pub board_taken : (fixes : Root) (ss service l : List ℕ) → l ≡ listed tree → (b : List ℕ) (o : Outcome)
-      → o ≡ taking (gets (record { names = r.names; service = fixes }) ss service st) (content_at r.names s r.at) l b
-      → o ≡ taking_board (corrected ss (content_at fixes.names service fixes.at) (own (strings tree))) tree b
-  board_taken fixes ss service l e b o h =
-      h ∙ (λ i. taking_ranges (corrected ss (content_at fixes.names service fixes.at) (own (p i))) (top_is i) (before_end (pairs (length (e i) / 16) (e i))) b)
-
-  pub root_corrects : MayCorrect r s
-  root_corrects = record { may = λ h. record { within = k.is.within; goes = k.goes } }
-
-  -- of the service tree
-  pub service_taken : (board b : List ℕ) (o : Outcome) → o ≡ taking_board (corrected st (content_at r.names s r.at) (own (strings board))) board b
-      → o ≡ taking_board (corrected (strings tree) (root tree) (own (strings board))) board b
-  service_taken board b o h = h ∙ (λ i. taking_board (corrected (p i) (top_is i) (own (strings board))) board b)
-
--- no service tree
-pub none_corrects : (board : List ℕ) → MayCorrect (record { names = 0; at = 0 }) (take (0 - 0) (drop 0 board))
-none_corrects board = record { may = λ h. absurd (h refl) }
+  board_taken : (service : Option Tree) (l : List ℕ) → l ≡ listed board → (b : List ℕ)
+      → taking (gets (record { service = service; board = t })) (content_at t.structure.names t.structure.bytes.now t.root) l b ≡ taking_board (corrected service (own (strings board))) board b
+  board_taken service l e b = λ i. taking_ranges (corrected service (own (o.root.strings_are i))) (says board t o i) (before_end (pairs (length (e i) / 16) (e i))) b
 
 -- ---- the checks
 
@@ -150,37 +152,36 @@ module _ (L : Layout) (w : L ≡ current) (b : List ℕ) (g : Bool) (q : g ≡ g
     unfolding intake_tree
     not_good h = rw (bad_here L w b g q h) refl
 
-    module _ (h : not g ≡ false) (t : Bool) (p : t ≡ form tree) where
-      pub has_no_form : t ≡ false → outcome 11 b ≡ intake_tree current tree b
+    module _ (h : not g ≡ false) where
+      pub no_form : form tree ≡ false → outcome 11 b ≡ intake_tree current tree b
       unfolding intake_tree readable
-      has_no_form e = rw (is_good_lem h, ← p, e) refl
+      no_form e = rw (is_good_lem h, e) refl
 
-      pub with_form : t ≡ true → form tree ≡ true
-      with_form e = sym p ∙ e
-
-      -- no bytes correct nothing
-      pub taken_alone : t ≡ true → (o : Outcome)
-          → o ≡ taking_board (corrected (take (0 - 0) (drop 0 tree)) (content_at 0 (take (0 - 0) (drop 0 tree)) 0) (own (strings tree))) tree b → o ≡ intake_tree current tree b
-      unfolding intake_tree readable asks taking_ranges contents_at tokens_up_to located contents valued listing first_of
-      taken_alone e o z = z ∙ rw (is_good_lem h, ← p, e) refl
+      pub taken_alone : form tree ≡ true → (x : Tree) → TreeOf tree x → (l : List ℕ) → l ≡ listed tree → (o : Outcome)
+          → o ≡ taking (gets (record { service = None; board = x })) (stands (record { service = None; board = x }) x.root) l b → o ≡ intake_tree current tree b
+      unfolding intake_tree readable asks taking_ranges
+      taken_alone e x y l z o k = k ∙ board_taken tree x y None l z b ∙ rw (is_good_lem h, e) refl
 
   module _ (board service : List ℕ) where
     pub pair_not_good : not g ≡ true → outcome 1 b ≡ intake_trees current board service b
     unfolding intake_trees
     pair_not_good h = rw (bad_here L w b g q h) refl
 
-    module _ (h : not g ≡ false) (t : Bool) (p : t ≡ form board && form service) where
-      pub pair_no_form : t ≡ false → outcome 11 b ≡ intake_trees current board service b
+    module _ (h : not g ≡ false) where
+      pub board_no_form : form board ≡ false → outcome 11 b ≡ intake_trees current board service b
       unfolding intake_trees readable_pair
-      pair_no_form e = rw (is_good_lem h, ← p, e) refl
+      board_no_form e = rw (is_good_lem h, e) refl
 
-      module _ (e : t ≡ true) where
-        pub board_form : form board ≡ true
-        board_form = (both (form board) (form service) (sym p ∙ e)).0
+      module _ (e : form board ≡ true) where
+        pub service_no_form : form service ≡ false → outcome 11 b ≡ intake_trees current board service b
+        unfolding intake_trees readable_pair
+        service_no_form f = rw (is_good_lem h, e, f) refl
 
-        pub service_form : form service ≡ true
-        service_form = (both (form board) (form service) (sym p ∙ e)).1
-
-        pub pair_taken_lem : (o : Outcome) → o ≡ taking_board (corrected (strings service) (root service) (own (strings board))) board b → o ≡ intake_trees current board service b
+        pub pair_taken : form service ≡ true → (x s : Tree) → TreeOf board x → TreeOf service s → (l : List ℕ) → l ≡ listed board → (o : Outcome)
+            → o ≡ taking (gets (record { service = Some s; board = x })) (stands (record { service = Some s; board = x }) x.root) l b
+            → o ≡ intake_trees current board service b
         unfolding intake_trees readable_pair asks_pair taking_ranges lookup
-        pair_taken_lem o z = z ∙ rw (is_good_lem h, ← p, e) refl
+        pair_taken f x s y t l z o k =
+            k ∙ board_taken board x y (Some s) l z b
+            ∙ (λ i. taking_board (first_match (t.root.strings_are i) (says service s t i) (own (strings board))) board b)
+            ∙ rw (is_good_lem h, e, f) refl

@@ -8,13 +8,14 @@ use Rattle.tables.specs.Commands.{Command}
 use Rattle.intake.specs.Turns.{steps, wholly}
 use Rattle.tree.specs.Content.{Content, nothing, property, node}
 use Rattle.tree.specs.Header.{Range, pairs, before_end, root, reservations}
-use Rattle.tree.specs.Steps.{rest_at, content_at}
 use Rattle.lookup.specs.Values.{same, Node}
 use Rattle.values.specs.Names.{device_type, memory, reg, numa_node_id, reserved_memory, no_map}
 use Rattle.values.specs.Values.{Get, is, has, number_or, values}
 use Rattle.board.specs.Board.{ranges, on_ranges, commands}
-use Rattle.values.specs.Steps.{children_ok}
+use Rattle.paths.specs.Steps.{InRoot}
+use Rattle.values.specs.Steps.{Sources, stands, gets, children_ok}
 use Rattle.board.specs.declared.ranges.Cells.{Cells}
+use Rattle.board.specs.declared.taking.Taking.{Taking}
 use Rattle.board.specs.declared.taking.Pass.{Pass}
 use Rattle.board.specs.declared.taking.Pass.TheVariants.{Memory, Reserved, Marked}
 
@@ -29,9 +30,12 @@ pub record OneOrTwo (c : Cells) : Type 0 where
 abbrev pub width : Cells → ℕ
 width c = 4 * (c.address + c.size)
 
--- at what stands in a root whose values are as asked
-abbrev pub AtRoot : Get → Cells → ℕ → List ℕ → ℕ → Type 0
-AtRoot get cells names l at = (at ≤ length l) × (rest_at names l 1 false at ≡ true) × (children_ok get (width cells) (content_at names l at) ≡ true)
+-- trees whose values are as asked
+pub record Valued (t : Taking) : Type 0 where
+  pub cells : OneOrTwo t.cells
+  pub trees : Sources t.trees
+  pub root : InRoot t.trees.board
+  pub values : children_ok (gets t.trees) (width t.cells) (stands t.trees t.trees.board.root) ≡ true
 
 -- ---- the commands of the root's children, one by one
 

@@ -1,7 +1,8 @@
 -- A range that no record meets, filled by one record. Assumes nothing.
+use Rattle.std.specs.Prelude.{Option, Some, None, Ok, Err, not}
 use Prim.Native.Nat.{ℕ, zero, suc, ◌+◌, ◌*◌, ◌-◌, ◌/◌, ◌≤◌, ◌<◌, max}
 use mathlib.Core.Path.{◌≡◌, refl, sym, ap, ◌∙◌}
-use mathlib.Core.Bool.{Bool, true, false, not, cond}
+use mathlib.Core.Bool.{Bool, true, false, cond}
 use mathlib.Core.List.{List, [], ◌∷◌, ◌++◌, append_assoc}
 use mathlib.Core.Logic.{◌⊎◌, inl, inr}
 use native.Mathlib.Omega.{arith}
@@ -11,8 +12,7 @@ use Rattle.address.proofs.Tests.{le_or_lt, zero_not_one}
 use Rattle.regions.specs.declared.State.{State}
 use borrow.Author.Tests.{leb-true, leb-false, le-leb, eqb-true, eqb-false, not-true, not-false}
 use Rattle.address.specs.declared.Address.{Address}
-use Rattle.address.specs.declared.CheckedAddress.{CheckedAddress}
-use Rattle.address.specs.declared.CheckedAddress.TheVariants.{At, Outside}
+use Rattle.address.specs.declared.Size.{Size}
 use Rattle.address.specs.Numbers.{address}
 use Rattle.address.proofs.Checked.{address_at, address_outside}
 use Rattle.regions.specs.declared.Tag.{Tag}
@@ -34,12 +34,9 @@ use Rattle.regions.proofs.Good.{total_is_sizes}
 use Rattle.regions.proofs.Records.{read_regions_length, read_regions_snoc, read_regions_rest, read_regions_end}
 use Rattle.records.specs.declared.table.Tally.{Tally}
 use Rattle.change.specs.declared.gap.Side.{Side}
-use Rattle.change.specs.declared.gap.Gap.{Gap}
-use Rattle.change.specs.declared.gap.Gap.TheVariants.{At}
-use Rattle.lists.specs.declared.Edit.{Edit}
-use Rattle.change.specs.declared.inplace.Changed.TheVariants.{To, NoRoom}
+use Rattle.refusals.specs.declared.Refusal.TheVariants.{Full}
 use Rattle.records.specs.Steps.{ending_by, put, Table, Whole}
-use Rattle.change.specs.Steps.{clear_to, Stored, JoinedBelow, JoinedAbove, Fills, GapAs, Vacant}
+use Rattle.change.specs.Steps.{clear_to, Stored, JoinedBelow, JoinedAbove, Vacant}
 use Rattle.records.proofs.Placing.{further, ending_reach, ending_above, ending_past, place_le}
 use Rattle.records.proofs.Placing.{take_read, drop_read}
 use Rattle.records.proofs.Parts.{table_rises, parts_rise, none_left, rest_begins, rest_rises, ends_by_top}
@@ -179,24 +176,33 @@ module _ (l : List ℕ) (n i : ℕ) (hi : Address) (tag : Tag) (w : Table l n) (
             let x : Fits hi.0 (Present tag) r = record { low = m; apart = d; some = j.some } in
             next x v
 
-    pub over_apart : (r.base.0 ≡ hi.0 → ⊥) → JoinedAbove (read_regions n l) i hi.0 tag (record { at = i; bound = hi })
-    over_apart d = apart (λ x y. d (sym x))
+    module _ (b : Bool) (q : b ≡ not (eqb r.base.0 hi.0)) where
+      pub over_apart : b ≡ true → JoinedAbove (read_regions n l) i hi.0 tag (record { at = i; bound = hi })
+      over_apart e = apart (λ x y. absurd (eqb-false r.base.0 hi.0 (not-true (eqb r.base.0 hi.0) (sym q ∙ e)) (sym x)))
 
-    pub over_tag : (b : Bool) → b ≡ same_tag r.tag tag → not b ≡ true → JoinedAbove (read_regions n l) i hi.0 tag (record { at = i; bound = hi })
-    over_tag b q e =
-        apart (λ x y.
-        let g : tag ≡ r.tag = cc in
-        let a : same_tag r.tag tag ≡ true = rw g (same_self r.tag) in
-        let c : b ≡ false = not-true b e in
-        absurd (zero_not_one cc))
+      base_is : b ≡ false → r.base.0 ≡ hi.0
+      base_is e = eqb-true r.base.0 hi.0 (not-false (eqb r.base.0 hi.0) (sym q ∙ e))
 
-    pub over_past : (x : CheckedAddress) → x ≡ address (end r) → x ≡ Outside → (s : Side) → JoinedAbove (read_regions n l) i hi.0 tag s
+    module _ (b : Bool) (q : b ≡ not (same_tag r.tag tag)) where
+      pub over_tag : b ≡ true → JoinedAbove (read_regions n l) i hi.0 tag (record { at = i; bound = hi })
+      over_tag e =
+          apart (λ x y.
+          let g : tag ≡ r.tag = cc in
+          let a : same_tag r.tag tag ≡ true = rw g (same_self r.tag) in
+          let d : same_tag r.tag tag ≡ false = not-true (same_tag r.tag tag) (sym q ∙ e) in
+          absurd (zero_not_one cc))
+
+      tag_is : b ≡ false → r.tag ≡ tag
+      tag_is e = same_true r.tag tag (not-false (same_tag r.tag tag) (sym q ∙ e))
+
+    pub over_past : (x : Option Address) → x ≡ address (end r) → x ≡ None → (s : Side) → JoinedAbove (read_regions n l) i hi.0 tag s
     over_past x q e s = absurd (omega (arith, ends_by_top l n i w k h r here, top_is, address_outside (end r) x q e))
 
-    pub over_grown : r.base.0 ≡ hi.0 → (b : Bool) → b ≡ same_tag r.tag tag → not b ≡ false → (x : CheckedAddress) → x ≡ address (end r) → (o : Address) → x ≡ At o
-        → JoinedAbove (read_regions n l) i hi.0 tag (record { at = i + 1; bound = o })
-    over_grown eb b q e x p o f =
-        let g = same_true r.tag tag (sym q ∙ not-false b e) in
+    pub over_grown : (b : Bool) → b ≡ not (eqb r.base.0 hi.0) → b ≡ false → (d : Bool) → d ≡ not (same_tag r.tag tag) → d ≡ false → (x : Option Address) → x ≡ address (end r)
+        → (o : Address) → x ≡ Some o → JoinedAbove (read_regions n l) i hi.0 tag (record { at = i + 1; bound = o })
+    over_grown b u v d y z x p o f =
+        let eb : r.base.0 ≡ hi.0 = base_is b u v in
+        let g : r.tag ≡ tag = tag_is d y z in
         let m : o.0 ≡ end r = (address_at (end r) x o p f).0 in
         let v : take i (read_regions n l) ++ (r ∷ drop (i + 1) (read_regions n l)) ≡ read_regions n l = rw (← rest_begins l n i w k h r here) (take-append-drop i (read_regions n l)) in
         record {
@@ -219,6 +225,9 @@ module _ (t : List ℕ) (y : Tally) (w : Whole t y) (i lo hi : ℕ) (tag : Tag) 
   pub gap_most : high.at ≤ y.count
   gap_most = omega (arith, v.most, read_regions_length y.count t)
 
+  pub gap_left : high.at - low.at ≤ y.count
+  gap_left = omega (arith, gap_most)
+
   one : Region
   one = region low.bound.0 (high.bound.0 - low.bound.0) tag
 
@@ -239,7 +248,7 @@ module _ (t : List ℕ) (y : Tally) (w : Whole t y) (i lo hi : ℕ) (tag : Tag) 
   unfolding put
   one_rises = Rises-rises (canonical_part (take low.at (read_regions y.count t)) (one ∷ []) (drop high.at (read_regions y.count t)) gap_rises)
 
-  pub gap_full : length t / 24 < y.count - (high.at - low.at) + 1 → Stored t t (shortest (after (change (Fill tag)) lo hi (at (read_regions y.count t))) top) NoRoom
+  pub gap_full : length t / 24 < y.count - (high.at - low.at) + 1 → Stored t t (shortest (after (change (Fill tag)) lo hi (at (read_regions y.count t))) top) (Err Full)
   gap_full h = rw gap_is (splice_full t y.count low.at high.at gap_order gap_most w.table.room w.table.rising (one ∷ []) one_rises (Rises-rises gap_rises) 1 refl h)
 
   module _ (h : hi ≤ top) (f : clear_to hi (drop i (read_regions y.count t)) ≡ true) where
@@ -255,18 +264,15 @@ module _ (t : List ℕ) (y : Tally) (w : Whole t y) (i lo hi : ℕ) (tag : Tag) 
     pub gap_small : (d : ℕ) → d ≡ hi - lo → y.total.0 + d < 18446744073709551616
     gap_small d ed = omega (arith, gap_total, total_le (at (put low.at high.at (one ∷ []) (read_regions y.count t))) top, top_is)
 
-    pub gap_done : (s d m : ℕ) → s ≡ high.bound.0 - low.bound.0 → d ≡ hi - lo → m ≡ y.total.0 + d → (x : List ℕ)
-        → x ≡ table_bytes (length t / 24) (put low.at high.at (region low.bound.0 s tag ∷ []) (read_regions y.count t))
+    pub gap_done : (s d m : Size) → s.0 ≡ high.bound.0 - low.bound.0 → d.0 ≡ hi - lo → m.0 ≡ y.total.0 + d.0 → (x : List ℕ)
+        → x ≡ table_bytes (length t / 24) (put low.at high.at (region low.bound.0 s.0 tag ∷ []) (read_regions y.count t))
         → y.count - (high.at - low.at) + 1 ≤ length t / 24
-        → Stored t x (shortest (after (change (Fill tag)) lo hi (at (read_regions y.count t))) top) (To (record { count = y.count - (high.at - low.at) + 1; total = record { 0 = m } }))
+        → Stored t x (shortest (after (change (Fill tag)) lo hi (at (read_regions y.count t))) top) (Ok (record { count = y.count - (high.at - low.at) + 1; total = m }))
     unfolding one
     gap_done s d m es ed em x q k =
         rw gap_is (put_done t y.count low.at high.at gap_order gap_most w.table.room w.table.rising (one ∷ []) one_rises (Rises-rises gap_rises) m (omega (arith, gap_total)) 1 refl k x (rw es at q))
 
--- ---- the place of a range that is filled
-
-pub gap_at : (x : Gap) (d : Edit) (xs : List Region) (i : ℕ) (t : Tag) → GapAs x d xs → x ≡ At i t → Fills d i t xs
-gap_at x d xs i t q f = rw f at q
+-- ---- a range of which the table has no address
 
 -- a range of which a rising list has no address meets no region
 vacant_clear : (lo hi : ℕ) → lo < hi → {c n : ℕ} {v : State} {xs : List Region} → Rises c v n xs → Vacant lo hi xs → clear_to hi (drop (ending_by lo xs) xs) ≡ true

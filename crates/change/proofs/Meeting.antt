@@ -69,13 +69,12 @@ module _ (l : List ℕ) (n a : ℕ) where
       let k : from ≤ n = omega (arith, starting_le a (read_regions n l), read_regions_length n l) in
       starting_rest a from (read_regions n l) h ∙ rw (drop_read from n l k)
 
-  pub begins_room : (from : ℕ) → from ≤ starting_by a (read_regions n l) → from ≤ n
-  begins_room from h = omega (arith, starting_le a (read_regions n l), read_regions_length n l)
-
   module _ (i : ℕ) (inv : starting_by a (read_regions n l) ≡ i + starting_by a (read_regions (n - i) (drop (24 * i) l))) where
-    pub begins_end : n ≤ i → i ≡ starting_by a (read_regions n l)
+    pub begins_end : n ≤ i → n ≡ starting_by a (read_regions n l)
     unfolding starting_by
-    begins_end h = let z : starting_by a (read_regions (n - i) (drop (24 * i) l)) ≡ 0 = rw (read_regions_end i n (drop (24 * i) l) h) in omega arith
+    begins_end h =
+        let z : starting_by a (read_regions (n - i) (drop (24 * i) l)) ≡ 0 = rw (read_regions_end i n (drop (24 * i) l) h) in
+        omega (arith, begins_le (starting_by a (read_regions n l)) refl)
 
     module _ (h : i < n) (v : ℕ) (e : v ≡ number 8 (drop (24 * i) l)) where
       step : starting_by a (read_regions (n - i) (drop (24 * i) l)) ≡ cond (leb v a) (suc (starting_by a (read_regions (n - (i + 1)) (drop (24 * (i + 1)) l)))) 0
@@ -95,9 +94,6 @@ module _ (l : List ℕ) (n a : ℕ) where
 -- the place in the table where a range begins is not behind the one where it ends
 pub meet_low : (t : List ℕ) (n lo hi b r : ℕ) → b ≡ lo - 1 → r ≡ ending_by b (read_regions n t) → lo ≤ hi → r ≤ starting_by hi (read_regions n t)
 meet_low t n lo hi b r eb er l = omega (arith, ending_starting b hi (read_regions n t) (omega arith))
-
-pub meet_first : (t : List ℕ) (n lo b r : ℕ) → b ≡ lo - 1 → r ≡ ending_by b (read_regions n t) → r ≡ ending_by (lo - 1) (read_regions n t)
-meet_first t n lo b r eb er = rw (← eb) er
 
 pub ending_ends : (a : ℕ) (xs : List Region) → Ends a (drop (ending_by a xs) xs)
 unfolding ending_by

@@ -23,13 +23,10 @@ use Rattle.regions.proofs.Few.{Ends, Begins, few}
 use Rattle.regions.proofs.Middle.{update_apart}
 use Rattle.records.specs.declared.table.Tally.{Tally}
 use Rattle.lists.specs.declared.Edit.{Edit}
-use Rattle.lists.specs.declared.Pushed.{Pushed}
-use Rattle.lists.specs.declared.Pushed.TheVariants.{Count, Full}
-use Rattle.change.specs.declared.inplace.Changed.{Changed}
-use Rattle.change.specs.declared.inplace.Changed.TheVariants.{NoRoom}
+use Rattle.refusals.specs.declared.Refusal.{Refusal}
+use Rattle.refusals.specs.declared.Refusal.TheVariants.{Full}
+use Rattle.std.specs.Prelude.{Option, None, Some, Result, Err}
 use Rattle.change.specs.declared.inplace.Met.{Met}
-use Rattle.change.specs.declared.inplace.Tried.{Tried}
-use Rattle.change.specs.declared.inplace.Tried.TheVariants.{Done, More}
 use Rattle.change.specs.Steps.{starting_by, AllTagged, Uniform, Meets, Stored, TriedAs, stored_answer, stored_bytes}
 use Rattle.records.specs.Steps.{put, AllFlagsBounded, Table, Whole}
 use Rattle.lists.specs.Steps.{finished, HoldsList}
@@ -37,7 +34,8 @@ use Rattle.records.proofs.Placing.{ending_reach}
 use Rattle.lists.proofs.Pushing.{holds_count, holds_list, holds_full}
 use Rattle.lists.proofs.Walking.{flags_bounded_drop}
 use Rattle.change.proofs.Meeting.{starting_rest, starting_above, ending_starting, ending_ends, ends_take, starting_begins, begins_le}
-use Rattle.change.proofs.Tagged.{tagged_take, tagged_drop, filled_at}
+use Rattle.change.proofs.Tagged.{filled_at}
+use Rattle.std.proofs.lemmas.List.Elements.{All-take, All-drop}
 use Rattle.change.proofs.Splicing.{mid, apart, mid_read, part_room, part_rises, split_rises, mid_rises}
 
 -- ---- parts of a list
@@ -67,6 +65,9 @@ module _ (t : List ℕ) (y : Tally) (d : Edit) (m : Met) (w : Meets t y d m) whe
 
   pub met_small : 24 * m.stop < 4294967296
   met_small = omega (arith, met_most, w.whole.table.room, w.whole.small)
+
+  pub met_room : 24 * m.stop ≤ length t
+  met_room = omega (arith, met_most, w.whole.table.room)
 
   -- the part that holds them, and what it says
   abbrev part : List ℕ
@@ -112,7 +113,7 @@ module _ (t : List ℕ) (y : Tally) (d : Edit) (m : Met) (w : Meets t y d m) whe
   unfolding met mid
   new_few h =
       let x : List Region = read_regions y.count t in
-      let u = uniform_at d.change met x h (λ g q. tagged_take g (m.stop - m.first) (drop m.first x) (tagged_drop g m.first x q)) in
+      let u = uniform_at d.change met x h (λ g q. All-take (λ (r : Region). r.tag ≡ g) (m.stop - m.first) (drop m.first x) (All-drop (λ (r : Region). r.tag ≡ g) m.first x q)) in
       let e = w.changeable.edit in
       rw met_read (few (change d.change) d.lo.0 d.hi.0 top e.low e.high met u.0 met_rises met_ends met_begins u.1)
 
@@ -130,8 +131,8 @@ module _ (t : List ℕ) (y : Tally) (d : Edit) (m : Met) (w : Meets t y d m) whe
       ∙ update_apart k d.lo.0 d.hi.0 top (take m.first x) met (drop m.stop x) w.changeable.edit.low w.changeable.edit.high c (rw w.from p) (rw w.to q)
       ∙ sym (ap (λ (z : List Region). take m.first x ++ (finished d z ++ drop m.stop x)) met_read)
 
-  module _ (cap : ℕ) (s : List ℕ) (p : Pushed) (c : HoldsList s cap new p) where
-    full : p ≡ Full → (length t ≤ 3072) ⊎ Uniform d.change (read_regions y.count t) → 128 ≤ cap → Stored t t (finished d (read_regions y.count t)) NoRoom
+  module _ (cap : ℕ) (s : List ℕ) (p : Option ℕ) (c : HoldsList s cap new p) where
+    full : p ≡ None → (length t ≤ 3072) ⊎ Uniform d.change (read_regions y.count t) → 128 ≤ cap → Stored t t (finished d (read_regions y.count t)) (Err Full)
     unfolding put stored_answer stored_bytes
     full f (inr u) h = absurd (omega (arith, new_few u, holds_full s cap new p c f))
     full f (inl i) h =
@@ -148,10 +149,10 @@ module _ (t : List ℕ) (y : Tally) (d : Edit) (m : Met) (w : Meets t y d m) whe
         record { answer = rw v; after = rw v }
 
     -- what does not fit into the scratch table
-    pub tried_full : p ≡ Full → TriedAs cap More t t (finished d (read_regions y.count t))
+    pub tried_full : p ≡ None → TriedAs cap None t t (finished d (read_regions y.count t))
     tried_full f = (refl, full f w.changeable.scratch)
 
-    module _ (n : ℕ) (f : p ≡ Count n) where
+    module _ (n : ℕ) (f : p ≡ Some n) where
       list : read_regions n s ≡ new
       list = holds_list s cap new p c n f
 
@@ -169,26 +170,6 @@ module _ (t : List ℕ) (y : Tally) (d : Edit) (m : Met) (w : Meets t y d m) whe
           → Whole t y × (((m.first ≤ m.stop) × (m.stop ≤ y.count)) × ((24 * n ≤ length s) × ((rises 0 Absent top (read_regions n s) ≡ true) × (rises 0 Absent top (put m.first m.stop (read_regions n s) (read_regions y.count t)) ≡ true))))
       splice_ready h = (w.whole, ((met_order, met_most), (omega (arith, (holds_count s cap new p c n f).0), (list_rises, put_rises))))
 
-      pub tried_spliced : (e : List ℕ) (r : Changed) → Stored t e (put m.first m.stop (read_regions n s) (read_regions y.count t)) r
-          → TriedAs cap (Done r) t e (finished d (read_regions y.count t))
+      pub tried_spliced : (e : List ℕ) (r : Result Tally Refusal) → Stored t e (put m.first m.stop (read_regions n s) (read_regions y.count t)) r
+          → TriedAs cap (Some r) t e (finished d (read_regions y.count t))
       tried_spliced e r q = rw done q
-
--- ---- a try in a scratch table
-
-module _ (cap : ℕ) (t e : List ℕ) (xs : List Region) (x : Tried) (q : TriedAs cap x t e xs) where
-  pub tried_done : (a : Changed) → x ≡ Done a → Stored t e xs a
-  tried_done a f = rw f at q
-
-  pub tried_more : x ≡ More → e ≡ t
-  tried_more f = let p : TriedAs cap More t e xs = rw f at q in p.0
-
-  pub tried_no_room : x ≡ More → 128 ≤ cap → Stored t e xs NoRoom
-  tried_no_room f h = let p : TriedAs cap More t e xs = rw f at q in rw p.0 (p.1 h)
-
--- the same bytes again
-pub met_again : (t e : List ℕ) (y : Tally) (d : Edit) (m : Met) → e ≡ t → Meets t y d m → Meets e y d m
-met_again t e y d m q p = rw q p
-
-pub stored_again : (t e : List ℕ) (y : Tally) (d : Edit) → e ≡ t → (z : List ℕ) (r : Changed) → Stored e z (finished d (read_regions y.count e)) r
-    → Stored t z (finished d (read_regions y.count t)) r
-stored_again t e y d q z r p = rw q at p

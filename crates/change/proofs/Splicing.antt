@@ -7,6 +7,7 @@ use native.Mathlib.Omega.{arith}
 use lib.ListN.{length, take, drop, length-append, length-drop, take-append-drop}
 use lib.Seq.{drop-drop, length-take-le}
 use borrow.Author.Tests.{le-leb, lt-leb}
+use Rattle.address.specs.declared.Size.{Size}
 use Rattle.regions.specs.declared.Region.{Region}
 use Rattle.regions.specs.declared.State.TheVariants.{Absent}
 use Rattle.regions.specs.Meaning.{at, total, top, top_is}
@@ -17,7 +18,8 @@ use Rattle.regions.proofs.Count.{sizes, total_le}
 use Rattle.regions.proofs.Good.{total_is_sizes}
 use Rattle.regions.proofs.Records.{read_regions_length}
 use Rattle.regions.proofs.Middle.{canonical_part}
-use Rattle.change.specs.declared.inplace.Changed.TheVariants.{To, NoRoom}
+use Rattle.refusals.specs.declared.Refusal.TheVariants.{Full}
+use Rattle.std.specs.Prelude.{Ok, Err}
 use Rattle.records.specs.Totals.{tally}
 use Rattle.records.specs.Steps.{put}
 use Rattle.change.specs.Steps.{Stored, stored_answer, stored_bytes}
@@ -30,6 +32,9 @@ sizes_append : (xs ys : List Region) → sizes (xs ++ ys) ≡ sizes xs + sizes y
 unfolding sizes
 sizes_append [] ys = omega arith
 sizes_append (r ∷ xs) ys = omega (arith, sizes_append xs ys)
+
+pub counted : (n : ℕ) (l : List ℕ) → n ≡ length (read_regions n l)
+counted n l = sym (read_regions_length n l)
 
 module _ (t : List ℕ) (count first stop : ℕ) (a : first ≤ stop) (b : stop ≤ count) (room : 24 * count ≤ length t) where
   unfoldable pub mid : List Region
@@ -80,16 +85,16 @@ module _ (t : List ℕ) (count first stop : ℕ) (a : first ≤ stop) (b : stop 
           let y : length (drop stop (read_regions count t)) ≡ count - stop = length-drop stop (read_regions count t) ∙ rw n in
           simp length-append (omega arith)
 
-      pub put_done : (s : ℕ) → s ≡ total (at (put first stop ys (read_regions count t))) top → (n : ℕ) → n ≡ length ys → count - (stop - first) + n ≤ length t / 24 → (e : List ℕ)
+      pub put_done : (s : Size) → s.0 ≡ total (at (put first stop ys (read_regions count t))) top → (n : ℕ) → n ≡ length ys → count - (stop - first) + n ≤ length t / 24 → (e : List ℕ)
           → e ≡ table_bytes (length t / 24) (put first stop ys (read_regions count t))
-          → Stored t e (put first stop ys (read_regions count t)) (To (record { count = count - (stop - first) + n; total = record { 0 = s } }))
+          → Stored t e (put first stop ys (read_regions count t)) (Ok (record { count = count - (stop - first) + n; total = s }))
       unfolding stored_answer stored_bytes
       put_done s es n en h e q =
           let f : length (put first stop ys (read_regions count t)) ≤ length t / 24 = omega (arith, put_length) in
           let c : count - (stop - first) + n ≡ length (put first stop ys (read_regions count t)) = omega (arith, put_length) in
-          let y : record { count = count - (stop - first) + n; total = record { 0 = s } } ≡ tally (put first stop ys (read_regions count t)) = λ i. record { count = c i; total = record { 0 = es i } } in
+          let y : record { count = count - (stop - first) + n; total = s } ≡ tally (put first stop ys (read_regions count t)) = λ i. record { count = c i; total = record { 0 = es i } } in
           record {
-            answer = rw (le-leb (length (put first stop ys (read_regions count t))) (length t / 24) f) (ap To y);
+            answer = rw (le-leb (length (put first stop ys (read_regions count t))) (length t / 24) f) (ap Ok y);
             after = rw (le-leb (length (put first stop ys (read_regions count t))) (length t / 24) f) q;
           }
 
@@ -118,12 +123,12 @@ module _ (t : List ℕ) (count first stop : ℕ) (a : first ≤ stop) (b : stop 
           pub put_small : kept + won < 18446744073709551616
           put_small = omega (arith, put_total, total_le (at (put first stop ys (read_regions count t))) top, top_is)
 
-          pub splice_done : (s : ℕ) → s ≡ kept + won → (n : ℕ) → n ≡ length ys → count - (stop - first) + n ≤ length t / 24 → (e : List ℕ)
+          pub splice_done : (s : Size) → s.0 ≡ kept + won → (n : ℕ) → n ≡ length ys → count - (stop - first) + n ≤ length t / 24 → (e : List ℕ)
               → e ≡ table_bytes (length t / 24) (put first stop ys (read_regions count t))
-              → Stored t e (put first stop ys (read_regions count t)) (To (record { count = count - (stop - first) + n; total = record { 0 = s } }))
+              → Stored t e (put first stop ys (read_regions count t)) (Ok (record { count = count - (stop - first) + n; total = s }))
           splice_done s es n en h e q = put_done s (es ∙ put_total) n en h e q
 
-      pub splice_full : (n : ℕ) → n ≡ length ys → length t / 24 < count - (stop - first) + n → Stored t t (put first stop ys (read_regions count t)) NoRoom
+      pub splice_full : (n : ℕ) → n ≡ length ys → length t / 24 < count - (stop - first) + n → Stored t t (put first stop ys (read_regions count t)) (Err Full)
       unfolding stored_answer stored_bytes
       splice_full n en h =
           let f : length t / 24 < length (put first stop ys (read_regions count t)) = omega (arith, put_length) in

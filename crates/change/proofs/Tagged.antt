@@ -1,10 +1,10 @@
--- Lists of one tag: their parts, and what they say of an address. Assumes nothing.
-use Prim.Native.Nat.{ℕ, zero, suc}
+-- Lists of one tag: what they say of an address. Assumes nothing.
+use Prim.Native.Nat.{ℕ}
 use mathlib.Core.Path.{◌≡◌, refl, ap}
 use mathlib.Core.Bool.{Bool, true, false, cond}
 use mathlib.Core.List.{List, [], ◌∷◌}
 use mathlib.Core.Logic.{◌⊎◌, inl, inr}
-use lib.ListN.{take, drop}
+use Rattle.std.proofs.lemmas.List.Elements.{All-head, All-tail}
 use Rattle.regions.specs.declared.Tag.{Tag}
 use Rattle.regions.specs.declared.Region.{Region}
 use Rattle.regions.specs.declared.State.TheVariants.{Absent, Present}
@@ -13,24 +13,14 @@ use Rattle.regions.specs.Meaning.{end, inside, at}
 use Rattle.regions.specs.Changes.{change}
 use Rattle.change.specs.Steps.{AllTagged}
 
-pub tagged_take : (t : Tag) (i : ℕ) (xs : List Region) → AllTagged t xs → AllTagged t (take i xs)
-tagged_take t zero xs h = tt
-tagged_take t (suc i) [] h = tt
-tagged_take t (suc i) (r ∷ rs) h = (h.0, tagged_take t i rs h.1)
-
-pub tagged_drop : (t : Tag) (i : ℕ) (xs : List Region) → AllTagged t xs → AllTagged t (drop i xs)
-tagged_drop t zero xs h = h
-tagged_drop t (suc i) [] h = tt
-tagged_drop t (suc i) (r ∷ rs) h = tagged_drop t i rs h.1
-
 -- each address is absent or has the tag
 pub tagged_at : (t : Tag) (xs : List Region) (a : ℕ) → AllTagged t xs → (at xs a ≡ Absent) ⊎ (at xs a ≡ Present t)
 unfolding at
 tagged_at t [] a h = inl refl
-tagged_at t (r ∷ rs) a h = go (inside r.base.0 (end r) a) (tagged_at t rs a h.1)
+tagged_at t (r ∷ rs) a h = go (inside r.base.0 (end r) a) (tagged_at t rs a (All-tail (λ (x : Region). x.tag ≡ t) r rs h))
   where
     go : (b : Bool) → (at rs a ≡ Absent) ⊎ (at rs a ≡ Present t) → (cond b (Present r.tag) (at rs a) ≡ Absent) ⊎ (cond b (Present r.tag) (at rs a) ≡ Present t)
-    go true ih = inr (ap Present h.0)
+    go true ih = inr (ap Present (All-head (λ (x : Region). x.tag ≡ t) r rs h))
     go false ih = ih
 
 -- so filled with the tag it has it

@@ -1,5 +1,6 @@
 -- A range of one table changed: the records met, what becomes of them, a gap. Only inner contracts and proofs cite this module. Assumes nothing.
-use Rattle.std.specs.Prelude.{ℕ, suc, ◌+◌, ◌-◌, ◌/◌, ◌<◌, ◌≤◌, ◌≡◌, Bool, true, false, cond, List, [], ◌∷◌, ◌++◌, ◌⊎◌, leb, length, take, drop}
+use Rattle.std.specs.Prelude.{Option, None, Some, Result, Ok, Err, ℕ, suc, ◌+◌, ◌-◌, ◌/◌, ◌<◌, ◌≤◌, ◌≡◌, Bool, true, false, cond, List, [], ◌∷◌, ◌++◌, ◌⊎◌, leb, length, take, drop}
+use Rattle.std.specs.List.{All}
 use Rattle.regions.specs.declared.Region.{Region}
 use Rattle.regions.specs.Meaning.{region, at, join, shortest, top}
 use Rattle.regions.specs.declared.State.TheVariants.{Absent}
@@ -10,14 +11,11 @@ use Rattle.regions.specs.declared.Change.{Change}
 use Rattle.regions.specs.declared.Change.TheVariants.{Fill, Clear, Mark, Unmark}
 use Rattle.change.specs.declared.gap.Side.{Side}
 use Rattle.change.specs.declared.gap.Gap.{Gap}
-use Rattle.change.specs.declared.gap.Gap.TheVariants.{At, Nowhere}
 use Rattle.lists.specs.declared.Edit.{Edit}
 use Rattle.records.specs.declared.table.Tally.{Tally}
-use Rattle.change.specs.declared.inplace.Changed.{Changed}
-use Rattle.change.specs.declared.inplace.Changed.TheVariants.{To, NoRoom, Missing}
+use Rattle.refusals.specs.declared.Refusal.{Refusal}
+use Rattle.refusals.specs.declared.Refusal.TheVariants.{Full, NotTaken}
 use Rattle.change.specs.declared.inplace.Met.{Met}
-use Rattle.change.specs.declared.inplace.Tried.{Tried}
-use Rattle.change.specs.declared.inplace.Tried.TheVariants.{Done, More}
 use Rattle.records.specs.Totals.{tally}
 use Rattle.records.specs.Steps.{ending_by, Whole}
 use Rattle.lists.specs.Steps.{Editable}
@@ -29,8 +27,7 @@ starting_by a (r ∷ rs) = cond (leb r.base.0 a) (suc (starting_by a rs)) 0
 
 -- each region has the tag
 abbrev pub AllTagged : Tag → List Region → Type 0
-AllTagged t [] = Unit {0}
-AllTagged t (r ∷ rs) = (r.tag ≡ t) × AllTagged t rs
+AllTagged t xs = All (λ (r : Region). r.tag ≡ t) xs
 
 -- all regions have one tag
 pub record OneTagged (xs : List Region) : Type 0 where
@@ -50,21 +47,21 @@ pub record Changeable (t : List ℕ) (y : Tally) (e : Edit) : Type 0 where
   pub scratch : (length t ≤ 3072) ⊎ Uniform e.change (read_regions y.count t)
 
 -- the answer for a list that is to stand where there is room for cap records, and the table's bytes then
-unfoldable pub stored_answer : ℕ → List Region → Changed
-stored_answer cap xs = cond (leb (length xs) cap) (To (tally xs)) NoRoom
+unfoldable pub stored_answer : ℕ → List Region → Result Tally Refusal
+stored_answer cap xs = cond (leb (length xs) cap) (Ok (tally xs)) (Err Full)
 
 unfoldable pub stored_bytes : ℕ → List Region → List ℕ → List ℕ
 stored_bytes cap xs t = cond (leb (length xs) cap) (table_bytes cap xs) t
 
 -- a table of bytes t, that is to hold the list xs, has the bytes e, and a is answered
-pub record Stored (t e : List ℕ) (xs : List Region) (a : Changed) : Type 0 where
+pub record Stored (t e : List ℕ) (xs : List Region) (a : Result Tally Refusal) : Type 0 where
   pub answer : a ≡ stored_answer (length t / 24) xs
   pub after : e ≡ stored_bytes (length t / 24) xs t
 
 -- the same if the change is allowed; else the bytes are as they were, and it is answered that addresses are missing
-pub record StoredIf (ok : Bool) (t e : List ℕ) (xs : List Region) (a : Changed) : Type 0 where
+pub record StoredIf (ok : Bool) (t e : List ℕ) (xs : List Region) (a : Result Tally Refusal) : Type 0 where
   pub yes : ok ≡ true → Stored t e xs a
-  pub no : ok ≡ false → (a ≡ Missing) × (e ≡ t)
+  pub no : ok ≡ false → (a ≡ Err NotTaken) × (e ≡ t)
 
 -- a table, a change of it, and the records that its range meets or touches
 pub record Meets (t : List ℕ) (y : Tally) (d : Edit) (m : Met) : Type 0 where
@@ -74,9 +71,9 @@ pub record Meets (t : List ℕ) (y : Tally) (d : Edit) (m : Met) : Type 0 where
   pub to : m.stop ≡ starting_by d.hi.0 (read_regions y.count t)
 
 -- after a try in a scratch table of cap records: the answer; or the table's bytes are as they were, and where cap is 128 the list has no room
-abbrev pub TriedAs : ℕ → Tried → List ℕ → List ℕ → List Region → Type 0
-TriedAs cap (Done a) t e xs = Stored t e xs a
-TriedAs cap More t e xs = (e ≡ t) × (128 ≤ cap → Stored t t xs NoRoom)
+abbrev pub TriedAs : ℕ → Option (Result Tally Refusal) → List ℕ → List ℕ → List Region → Type 0
+TriedAs cap (Some a) t e xs = Stored t e xs a
+TriedAs cap None t e xs = (e ≡ t) × (128 ≤ cap → Stored t t xs (Err Full))
 
 -- no region begins below an address
 unfoldable pub clear_to : ℕ → List Region → Bool
@@ -104,9 +101,9 @@ pub record Fills (e : Edit) (i : ℕ) (t : Tag) (xs : List Region) : Type 0 wher
   pub some : e.lo.0 < e.hi.0
   pub clear : clear_to e.hi.0 (drop i xs) ≡ true
 
-abbrev pub GapAs : Gap → Edit → List Region → Type 0
-GapAs (At i t) e xs = Fills e i t xs
-GapAs Nowhere e xs = Unit {0}
+abbrev pub GapAs : Option Gap → Edit → List Region → Type 0
+GapAs (Some g) e xs = Fills e g.at g.tag xs
+GapAs None e xs = Unit {0}
 
 -- none of the addresses from lo to below hi is in the list
 abbrev pub Vacant : ℕ → ℕ → List Region → Type 0

@@ -9,26 +9,12 @@ ghost use Rattle.regions.specs.Changes.{allowed as allowed_of};
 ghost use Rattle.change.specs.Steps.{OneTagged, Meets, Stored, TriedAs, starting_by};
 ghost use Rattle.lists.specs.Steps.{finished};
 
-use address::{Address, CheckedAddress, Size};
-use lists::{Edit, Pushed, change_list};
+use address::{Address, Size};
+use lists::{Edit, change_list};
 use moves::replace;
-use records::table::{Tally, place, total_of};
-use regions::bytes::{get_region, get_u64};
-
-// A changed table's count and total, or that it has no room, or not every address that it must have.
-#[derive(Clone, Copy)]
-pub enum Changed {
-    To(Tally),
-    NoRoom,
-    Missing,
-}
-
-// What became of a try in a scratch table: the answer, or that it needs a larger one.
-#[derive(Clone, Copy)]
-pub enum Tried {
-    Done(Changed),
-    More,
-}
+use records::table::{Records, Tally};
+use refusals::Refusal;
+use regions::bytes::get_u64;
 
 // The records that a range meets or touches: from `first` up to, not including, `stop`.
 #[derive(Clone, Copy)]
@@ -41,128 +27,121 @@ pub struct Met {
 fn below(a: Address) -> Address
     ensures { result.0 ≡ a.0 - 1 }
 {
-    if a.0 == 0 {
-        return a;
-    }
-    a.sub(Size(1))
+    Address(a.0.saturating_sub(1))
 }
 
-// How many of the first records begin at or below `a`; `from` of them do.
-fn starting_by(t: &[u8], count: usize, from: usize, a: Address) -> usize
-    requires { (24 * count ≤ length t.now) × (from ≤ starting_by a.0 (read_regions count t.now)) }
-    ensures { result ≡ starting_by a.0 (read_regions count t.now) }
+// How many of the records begin at or below `a`; the first `from` do.
+// Of a record only the base is read, as the number that it is in the bytes.
+fn starting_by(t: Records, from: usize, a: Address) -> usize
+    requires { (24 * t.count ≤ length t.bytes.now) × (from ≤ starting_by a.0 (read_regions t.count t.bytes.now)) }
+    ensures { result ≡ starting_by a.0 (read_regions t.entry.count t.entry.bytes.now) }
 {
-    let mut i = from;
-    while i < count {
-        if a.0 < get_u64(t, 24 * i) {
+    for i in from..t.count {
+        if a.0 < get_u64(t.bytes, 24 * i) {
             return i;
         }
-        i += 1;
     }
-    i
+    t.count
 }
 
-// All records before `first` end below `lo`, all from `stop` on begin above `hi`.
-pub fn meet(t: &[u8], count: usize, lo: Address, hi: Address) -> Met
-    requires { Table t.now count × (lo.0 ≤ hi.0) }
-    ensures { (result.first ≡ ending_by (lo.0 - 1) (read_regions count t.now)) × (result.stop ≡ starting_by hi.0 (read_regions count t.now)) }
+// All records before `first` end below the edit's range, all from `stop` on begin above it.
+pub fn meet(t: Records, edit: Edit) -> Met
+    requires { Table t.bytes.now t.count × (edit.lo.0 ≤ edit.hi.0) }
+    ensures { (result.first ≡ ending_by (edit.lo.0 - 1) (read_regions t.entry.count t.entry.bytes.now)) × (result.stop ≡ starting_by edit.hi.0 (read_regions t.entry.count t.entry.bytes.now)) }
 {
-    let first = place(t, count, below(lo));
-    let stop = starting_by(t, count, first, hi);
+    let first = t.place(below(edit.lo));
+    let stop = starting_by(t, first, edit.hi);
     Met { first, stop }
 }
 
-// Whether a change from `lo` up to, not including, `hi` is allowed: a strict one must find every address in the table, and so, where all records have one
-// tag, in one record; `first` of them end below `lo`. One look at a record.
-pub fn allowed(t: &[u8], count: usize, first: usize, strict: bool, lo: Address, hi: Address) -> bool
-    requires { Table t.now count × ((first ≡ ending_by (lo.0 - 1) (read_regions count t.now)) × (strict ≡ true → OneTagged (read_regions count t.now))) }
-    ensures { result ≡ allowed_of strict lo.0 hi.0 (read_regions count t.now) }
+// Whether an edit is allowed: a strict one must find every address of its range in the table, and so, where all records have one tag, in one record; the first
+// `first` of them end below the range. One look at a record.
+// `strict` is a bool, as the definition `allowed` has it.
+pub fn allowed(t: Records, first: usize, strict: bool, edit: Edit) -> bool
+    requires { Table t.bytes.now t.count × ((first ≡ ending_by (edit.lo.0 - 1) (read_regions t.count t.bytes.now)) × (strict ≡ true → OneTagged (read_regions t.count t.bytes.now))) }
+    ensures { result ≡ allowed_of strict edit.lo.0 edit.hi.0 (read_regions t.entry.count t.entry.bytes.now) }
 {
-    if !strict {
+    if !strict || edit.hi <= edit.lo {
         return true;
     }
-    if hi.0 <= lo.0 {
-        return true;
-    }
-    if count <= first {
+    if t.count <= first {
         return false;
     }
-    let r = get_region(t, 24 * first);
-    let CheckedAddress::At(end) = r.end() else {
+    let r = t.get(first);
+    let Some(end) = r.end() else {
         return false;
     };
-    if lo.0 < r.base.0 {
-        return false;
-    }
-    hi.0 <= end.0
+    r.base <= edit.lo && edit.hi <= end
 }
 
-// Puts the first `n` records of `src` in the place of those met, if there is room.
-pub fn splice(t: &mut [u8], tally: Tally, met: Met, src: &[u8], n: usize) -> Changed
-    requires { Whole t.old tally × (((met.first ≤ met.stop) × (met.stop ≤ tally.count)) × ((24 * n ≤ length src.now) × ((rises 0 Absent top (read_regions n src.now) ≡ true) × (rises 0 Absent top (put met.first met.stop (read_regions n src.now) (read_regions tally.count t.old)) ≡ true)))) }
-    ensures { Stored t.old t.new (put met.first met.stop (read_regions n src.now) (read_regions tally.count t.old)) result }
+// Puts records in the place of those met, if there is room.
+pub fn splice(t: &mut [u8], tally: Tally, met: Met, new: Records) -> Result<Tally, Refusal>
+    requires { Whole t.old tally × (((met.first ≤ met.stop) × (met.stop ≤ tally.count)) × ((24 * new.count ≤ length new.bytes.now) × ((rises 0 Absent top (read_regions new.count new.bytes.now) ≡ true) × (rises 0 Absent top (put met.first met.stop (read_regions new.count new.bytes.now) (read_regions tally.count t.old)) ≡ true)))) }
+    ensures { Stored t.old t.new (put met.first met.stop (read_regions new.entry.count new.entry.bytes.now) (read_regions tally.count t.old)) result }
 {
     let count = tally.count as usize;
-    let first = met.first;
-    let stop = met.stop;
-    let from = 24 * first;
-    let to = 24 * stop;
-    let left = count - (stop - first) + n;
+    let gone = met.stop - met.first;
+    let left = count - gone + new.count;
     if t.len() / 24 < left {
-        return Changed::NoRoom;
+        return Err(Refusal::Full);
     }
-    let lost = total_of(&t[from..to], stop - first);
-    let won = total_of(src, n);
-    let total = tally.total.sub(lost).add(won);
-    replace(t, count, first, stop, src, n);
-    Changed::To(Tally {
+    let old = Records {
+        bytes: &t[24 * met.first..24 * met.stop],
+        count: gone,
+    };
+    let total = tally.total.sub(old.total()).add(new.total());
+    replace(t, count, met.first, met.stop, new);
+    Ok(Tally {
         count: left as u32,
         total,
     })
 }
 
-// Makes a table hold the finished shortest list, if it has room; the records met are built anew in a scratch table, if that has room for them.
-fn rebuild_in(t: &mut [u8], tally: Tally, met: Met, edit: Edit, scratch: &mut [u8]) -> Tried
+// Makes a table hold the finished shortest list, if it has room; the records met are built anew in a scratch table. None if that has no room for them.
+fn rebuild_in(
+    t: &mut [u8],
+    tally: Tally,
+    met: Met,
+    edit: Edit,
+    scratch: &mut [u8],
+) -> Option<Result<Tally, Refusal>>
     requires { Meets t.old tally edit met }
     ensures { TriedAs (length scratch.old / 24) result t.old t.new (finished edit (read_regions tally.count t.old)) }
 {
-    let from = 24 * met.first;
-    let to = 24 * met.stop;
-    let m = met.stop - met.first;
-    let Pushed::Count(n) = change_list(&t[from..to], m, scratch, edit) else {
-        return Tried::More;
+    let old = Records {
+        bytes: &t[24 * met.first..24 * met.stop],
+        count: met.stop - met.first,
     };
-    Tried::Done(splice(t, tally, met, scratch, n))
+    let count = change_list(old, scratch, edit)?;
+    let new = Records {
+        bytes: scratch,
+        count,
+    };
+    Some(splice(t, tally, met, new))
 }
 
-// In a scratch table of 8 records: enough where the change makes one state of a whole range.
-fn rebuild_few(t: &mut [u8], tally: Tally, met: Met, edit: Edit) -> Tried
-    requires { Meets t.old tally edit met }
-    ensures { TriedAs 8 result t.old t.new (finished edit (read_regions tally.count t.old)) }
+// In a scratch table of N bytes of its own.
+fn rebuild_with<const N: usize>(
+    t: &mut [u8],
+    tally: Tally,
+    met: Met,
+    edit: Edit,
+) -> Option<Result<Tally, Refusal>>
+    requires { (N ≤ 3072) × Meets t.old tally edit met }
+    ensures { TriedAs (N / 24) result t.old t.new (finished edit (read_regions tally.count t.old)) }
 {
-    let mut scratch = [0u8; 192];
+    let mut scratch = [0u8; N];
     rebuild_in(t, tally, met, edit, &mut scratch)
 }
 
-// In one of 128 records: enough for any change of a table that is no longer.
-fn rebuild_many(t: &mut [u8], tally: Tally, met: Met, edit: Edit) -> Tried
-    requires { Meets t.old tally edit met }
-    ensures { TriedAs 128 result t.old t.new (finished edit (read_regions tally.count t.old)) }
-{
-    let mut scratch = [0u8; 3072];
-    rebuild_in(t, tally, met, edit, &mut scratch)
-}
-
-// The small scratch table first, then the large one. The two are not on the stack at once.
-pub fn rebuild(t: &mut [u8], tally: Tally, met: Met, edit: Edit) -> Changed
+// In a scratch table of 8 records first, enough where the change makes one state of a whole range; then in one of 128, enough for any change of a table that
+// is no longer. The two are not on the stack at once.
+pub fn rebuild(t: &mut [u8], tally: Tally, met: Met, edit: Edit) -> Result<Tally, Refusal>
     requires { Meets t.old tally edit met }
     ensures { Stored t.old t.new (finished edit (read_regions tally.count t.old)) result }
 {
-    if let Tried::Done(r) = rebuild_few(t, tally, met, edit) {
+    if let Some(r) = rebuild_with::<192>(t, tally, met, edit) {
         return r;
     }
-    let Tried::Done(r) = rebuild_many(t, tally, met, edit) else {
-        return Changed::NoRoom;
-    };
-    r
+    rebuild_with::<3072>(t, tally, met, edit).unwrap_or(Err(Refusal::Full))
 }

@@ -2,6 +2,7 @@
 #![tactic(auto)]
 
 ghost use Rattle.std.specs.Prelude.{◌≡◌, ◌*◌, ◌≤◌, length};
+ghost use Rattle.refusals.specs.Numbers.{answered};
 ghost use Rattle.regions.specs.Bytes.{read_regions};
 ghost use Rattle.range.specs.Outcomes.{outcome};
 ghost use Rattle.convert.specs.Convert.{old_flags, flags_one, good_one, convert as convert_outcome};
@@ -10,31 +11,25 @@ use block::{
     FRONT, LENGTH, LENGTH_ONE, block_good, current_layout, edition_one_layout, get_header,
     put_header,
 };
-use records::table::{copy_front, put_zeros};
-use regions::bytes::get_region;
+use records::table::{Records, copy_front, put_zeros};
+use refusals::Refusal;
 
 // Whether document 01 knows these flags of memory: 0 or 4.
 fn old_flags(flags: u32) -> bool
     ensures { result ≡ old_flags flags }
 {
-    if flags == 0 {
-        return true;
-    }
-    flags == 4
+    matches!(flags, 0 | 4)
 }
 
 // Whether it knows those of the first `count` records.
-fn flags_one(t: &[u8], count: usize) -> bool
-    requires { 24 * count ≤ length t.now }
-    ensures { result ≡ flags_one (read_regions count t.now) }
+fn flags_one(memory: Records) -> bool
+    requires { 24 * memory.count ≤ length memory.bytes.now }
+    ensures { result ≡ flags_one (read_regions memory.entry.count memory.entry.bytes.now) }
 {
-    let mut i = 0;
-    while i < count {
-        let r = get_region(t, 24 * i);
-        if !old_flags(r.tag.flags) {
+    for i in 0..memory.count {
+        if !old_flags(memory.get(i).tag.flags) {
             return false;
         }
-        i += 1;
     }
     true
 }
@@ -47,24 +42,23 @@ fn good_one(old: &[u8]) -> bool
         return false;
     }
     let h = get_header(old);
-    if h.settings.image.0 == 0 {
-        return flags_one(&old[80..FRONT], h.memory.count as usize);
-    }
-    false
+    let memory = Records {
+        bytes: &old[80..FRONT],
+        count: h.memory.count as usize,
+    };
+    // By its number: with `== Address(0)` the goal where it is another was left open.
+    h.settings.image.0 == 0 && flags_one(memory)
 }
 
 // Writes what an edition 1 block says over any bytes of the right length: its records as they stand, zeros behind them, and the header anew.
-pub fn convert(old: &[u8], block: &mut [u8]) -> u32
-    ensures { outcome result block.new ≡ convert_outcome old.now block.old }
+pub fn convert(old: &[u8], block: &mut [u8]) -> Result<(), Refusal>
+    ensures { outcome (answered result) block.new ≡ convert_outcome old.now block.old }
 {
-    if !good_one(old) {
-        return 1;
-    }
-    if block.len() != LENGTH {
-        return 1;
+    if !good_one(old) || block.len() != LENGTH {
+        return Err(Refusal::Block);
     }
     copy_front(block, old, LENGTH_ONE);
     put_zeros(block, LENGTH_ONE);
     put_header(block, current_layout(), get_header(old));
-    0
+    Ok(())
 }

@@ -1,31 +1,26 @@
 -- One stretch: the fits are the lowest and the highest address of it that is in the window, and the code's steps find them. Assumes nothing.
-use Prim.Native.Nat.{ℕ, ◌+◌, ◌-◌, ◌/◌, ◌%◌, ◌≤◌, ◌<◌, min, max}
+use Prim.Native.Nat.{ℕ, ◌+◌, ◌-◌, ◌%◌, ◌≤◌, ◌<◌, min, max}
 use mathlib.Core.Path.{◌≡◌, refl, sym, ap, ◌∙◌}
-use mathlib.Core.Bool.{Bool, true, false, cond, not, ◌&&◌, ◌||◌, and-false, or-false}
+use mathlib.Core.Bool.{Bool, true, false, cond, ◌&&◌}
 use mathlib.Core.Option.{none, some}
 use native.Mathlib.Omega.{arith}
-use native.Mathlib.Nat.{div-one}
 use lib.Dec.{leb, eqb}
-use borrow.Author.Tests.{le-leb, lt-leb, leb-true, leb-false, eq-eqb, ne_eqb, eqb-true, eqb-false}
+use borrow.Author.Tests.{le-leb, lt-leb, leb-true, leb-false, eq-eqb, eqb-true}
 use Rattle.address.specs.Numbers.{address, difference, up, down, power_of_two}
 use Rattle.address.specs.declared.Address.{Address}
-use Rattle.address.specs.declared.CheckedAddress.{CheckedAddress}
+use Rattle.std.specs.Prelude.{Option, Some, None}
 use Rattle.address.proofs.Tests.{both, and, no, clash, zero_not_one}
 use Rattle.address.proofs.Checked.{address_at, address_outside}
 use Rattle.address.proofs.Rounding.{up_ge, up_multiple, up_least, down_le, down_multiple, down_most}
 use Rattle.address.proofs.Powers.{power_some}
-use Rattle.regions.specs.declared.Region.{Region}
-use Rattle.regions.specs.Changes.{has}
 use Rattle.regions.specs.Runs.{run_of}
 use Rattle.fits.specs.declared.Query.{Query}
 use Rattle.regions.specs.declared.Run.{Run}
-use Rattle.fits.specs.Eligible.{asks}
-use Rattle.fits.specs.Steps.{hit_in, spot_of, cut_low, cut_high, open_to, serves, fit_low, fit_high}
+use Rattle.fits.specs.Steps.{hit_in, spot_of, cut_low, cut_high, fit_low, fit_high}
 use Rattle.fits.specs.declared.Way.{Way}
 use Rattle.fits.specs.declared.Way.TheVariants.{Up, Down}
 use Rattle.fits.proofs.Ways.{near, far, From, Nearer, within, fit}
 use Rattle.fits.proofs.Stretches.{Finds}
-use Rattle.address.specs.declared.CheckedAddress.TheVariants as checked
 
 -- a multiple of the alignment, and the size from there lies between start and end
 abbrev pub in_window : Query → ℕ → Bool
@@ -111,110 +106,67 @@ module _ (q : Query) (some_size : 0 < q.size.0) (some-align : 0 < q.align.0) (p 
         (omega arith, record { even = down_multiple (min hi q.end.0 - q.size.0) q.align.0 some-align; from = omega arith; to = omega arith; by = omega arith }))
         (λ a i f. let k = most a i f in (and (le-leb q.size.0 (min hi q.end.0) (omega arith)) (le-leb (max lo q.start.0) x (omega arith)), λ l. omega arith))
 
--- ---- the code's steps: whether flags are open to a wish, and a record serves
-
--- one digit is no more than another exactly when the one is not 1 or the other is
-digit_le : (x y : ℕ) → x < 2 → y < 2 → leb x y ≡ not (eqb x 1) || eqb y 1
-digit_le x y h k = go (eqb x 1) (eqb y 1) refl refl
-  where
-    go : (a b : Bool) → eqb x 1 ≡ a → eqb y 1 ≡ b → leb x y ≡ not a || b
-    go true true e f = le-leb x y (omega (arith, eqb-true x 1 e, eqb-true y 1 f))
-    go true false e f = let d = eqb-false y 1 f in lt-leb x y (omega (arith, eqb-true x 1 e))
-    go false b e f = let d = eqb-false x 1 e in le-leb x y (omega arith)
-
-module _ (wish flags : ℕ) where
-  hotplug_is : leb (flags % 2) (wish % 2) ≡ not (has 1 flags) || has 1 wish
-  hotplug_is = digit_le (flags % 2) (wish % 2) (omega arith) (omega arith) ∙ rw (div-one flags, div-one wish)
-
-  mirror_is : leb (wish / 2 % 2) (flags / 2 % 2) ≡ not (has 2 wish) || has 2 flags
-  mirror_is = digit_le (wish / 2 % 2) (flags / 2 % 2) (omega arith) (omega arith)
-
-  pub open_plain : flags ≡ 0 → (b : Bool) → b ≡ has 2 wish → not b ≡ open_to wish flags
-  open_plain e b q = rw (e, ← q, or-false)
-
-  module _ (a : Bool) (x : a ≡ has 4 flags) where
-    pub open_no_map : a ≡ true → false ≡ open_to wish flags
-    open_no_map e = rw (← x, e)
-
-    module _ (e : a ≡ false) where
-      pub open_hotplug : wish % 2 < flags % 2 → false ≡ open_to wish flags
-      open_hotplug h = rw (← x, e, ← hotplug_is, lt-leb (flags % 2) (wish % 2) h)
-
-      pub open_mirror : flags % 2 ≤ wish % 2 → leb (wish / 2 % 2) (flags / 2 % 2) ≡ open_to wish flags
-      open_mirror h = rw (← x, e, ← hotplug_is, le-leb (flags % 2) (wish % 2) h) mirror_is
-
-module _ (q : Query) (r : Region) where
-  pub serves_other : (q.node ≡ 4294967295 → ⊥) → (r.tag.node ≡ q.node → ⊥) → false ≡ serves (asks q) r
-  serves_other n m = rw (ne_eqb q.node 4294967295 n, ne_eqb r.tag.node q.node m, and-false)
-
-  module _ (b : Bool) (x : b ≡ open_to q.wish r.tag.flags) where
-    pub serves_any : q.node ≡ 4294967295 → b ≡ serves (asks q) r
-    serves_any n = rw (eq-eqb q.node 4294967295 n) x
-
-    pub serves_node : (q.node ≡ 4294967295 → ⊥) → r.tag.node ≡ q.node → b ≡ serves (asks q) r
-    serves_node n m = rw (ne_eqb q.node 4294967295 n, eq-eqb r.tag.node q.node m) x
-
 -- ---- the lowest of a stretch
 
 module _ (q : Query) (from to : Address) where
-  low_no : to.0 < up from.0 q.align.0 + q.size.0 → checked.Outside ≡ spot_of (cut_low q from.0 to.0)
+  low_no : to.0 < up from.0 q.align.0 + q.size.0 → None ≡ spot_of (cut_low q from.0 to.0)
   unfolding cut_low
   low_no h = rw (lt-leb (up from.0 q.align.0 + q.size.0) to.0 h)
 
   -- a stretch that is too short for the size, whatever the alignment
   module _ (l : power_of_two q.align.0 ≡ true) where
-    pub low_none : to.0 < from.0 → checked.Outside ≡ spot_of (cut_low q from.0 to.0)
+    pub low_none : to.0 < from.0 → None ≡ spot_of (cut_low q from.0 to.0)
     low_none h = low_no (omega (arith, up_ge from.0 q.align.0 (power_some q.align.0 l)))
 
-    pub low_short : (room : ℕ) → room ≡ to.0 - from.0 → from.0 ≤ to.0 → room < q.size.0 → checked.Outside ≡ spot_of (cut_low q from.0 to.0)
+    pub low_short : (room : ℕ) → room ≡ to.0 - from.0 → from.0 ≤ to.0 → room < q.size.0 → None ≡ spot_of (cut_low q from.0 to.0)
     low_short room e h k = low_no (omega (arith, up_ge from.0 q.align.0 (power_some q.align.0 l)))
 
-  module _ (u : CheckedAddress) (rounded : u ≡ address (up from.0 q.align.0)) where
-    pub low_none_up : u ≡ checked.Outside → to.0 < 18446744073709551616 → checked.Outside ≡ spot_of (cut_low q from.0 to.0)
+  module _ (u : Option Address) (rounded : u ≡ address (up from.0 q.align.0)) where
+    pub low_none_up : u ≡ None → to.0 < 18446744073709551616 → None ≡ spot_of (cut_low q from.0 to.0)
     low_none_up e h = low_no (omega (arith, address_outside (up from.0 q.align.0) u rounded e))
 
-    module _ (a : Address) (is : u ≡ checked.At a) (s : CheckedAddress) (summed : s ≡ address (a.0 + q.size.0)) where
+    module _ (a : Address) (is : u ≡ Some a) (s : Option Address) (summed : s ≡ address (a.0 + q.size.0)) where
       at_low : a.0 ≡ up from.0 q.align.0
       at_low = (address_at (up from.0 q.align.0) u a rounded is).0
 
-      pub low_none_sum : s ≡ checked.Outside → to.0 < 18446744073709551616 → checked.Outside ≡ spot_of (cut_low q from.0 to.0)
+      pub low_none_sum : s ≡ None → to.0 < 18446744073709551616 → None ≡ spot_of (cut_low q from.0 to.0)
       low_none_sum e h = low_no (omega (arith, at_low, address_outside (a.0 + q.size.0) s summed e))
 
-      module _ (e : Address) (t : s ≡ checked.At e) where
-        pub low_past : to.0 < e.0 → checked.Outside ≡ spot_of (cut_low q from.0 to.0)
+      module _ (e : Address) (t : s ≡ Some e) where
+        pub low_past : to.0 < e.0 → None ≡ spot_of (cut_low q from.0 to.0)
         low_past h = let z = address_at (a.0 + q.size.0) s e summed t in low_no (omega (arith, at_low))
 
-        pub low_found : e.0 ≤ to.0 → checked.At a ≡ spot_of (cut_low q from.0 to.0)
+        pub low_found : e.0 ≤ to.0 → Some a ≡ spot_of (cut_low q from.0 to.0)
         unfolding cut_low
         low_found h =
             let z = address_at (a.0 + q.size.0) s e summed t in
-            rw (le-leb (up from.0 q.align.0 + q.size.0) to.0 (omega (arith, at_low))) (ap checked.At (λ i. record { 0 = at_low i }))
+            rw (le-leb (up from.0 q.align.0 + q.size.0) to.0 (omega (arith, at_low))) (ap Some (λ i. record { 0 = at_low i }))
 
 -- ---- the highest of a stretch
 
-less_at : (x s : ℕ) (u : CheckedAddress) (a : Address) → u ≡ difference x s → u ≡ checked.At a → (a.0 ≡ x - s) × (s ≤ x)
+less_at : (x s : ℕ) (u : Option Address) (a : Address) → u ≡ difference x s → u ≡ Some a → (a.0 ≡ x - s) × (s ≤ x)
 unfolding difference
 less_at x s u a e f = go (leb s x) refl (sym f ∙ e)
   where
-    go : (b : Bool) → leb s x ≡ b → checked.At a ≡ cond b (checked.At (record { 0 = x - s })) checked.Outside → (a.0 ≡ x - s) × (s ≤ x)
+    go : (b : Bool) → leb s x ≡ b → Some a ≡ cond b (Some (record { 0 = x - s })) None → (a.0 ≡ x - s) × (s ≤ x)
     go true h e = let f : a ≡ record { 0 = x - s } = cc in (ap (λ (y : Address). y.0) f, leb-true s x h)
     go false h e = absurd (zero_not_one cc)
 
-less_outside : (x s : ℕ) (u : CheckedAddress) → u ≡ difference x s → u ≡ checked.Outside → x < s
+less_outside : (x s : ℕ) (u : Option Address) → u ≡ difference x s → u ≡ None → x < s
 unfolding difference
 less_outside x s u e f = go (leb s x) refl (sym f ∙ e)
   where
-    go : (b : Bool) → leb s x ≡ b → checked.Outside ≡ cond b (checked.At (record { 0 = x - s })) checked.Outside → x < s
+    go : (b : Bool) → leb s x ≡ b → ◌≡◌ {A = Option Address} None (cond b (Some (record { 0 = x - s })) None) → x < s
     go true h e = absurd (zero_not_one cc)
     go false h e = leb-false s x h
 
-module _ (q : Query) (from to : Address) (u : CheckedAddress) (less : u ≡ difference to.0 q.size.0) where
-  pub high_none : u ≡ checked.Outside → checked.Outside ≡ spot_of (cut_high q from.0 to.0)
+module _ (q : Query) (from to : Address) (u : Option Address) (less : u ≡ difference to.0 q.size.0) where
+  pub high_none : u ≡ None → None ≡ spot_of (cut_high q from.0 to.0)
   unfolding cut_high
   high_none e = rw (lt-leb q.size.0 to.0 (less_outside to.0 q.size.0 u less e))
 
-  module _ (last : Address) (is : u ≡ checked.At last) where
-    pub high_narrow : power_of_two q.align.0 ≡ true → last.0 < from.0 → checked.Outside ≡ spot_of (cut_high q from.0 to.0)
+  module _ (last : Address) (is : u ≡ Some last) where
+    pub high_narrow : power_of_two q.align.0 ≡ true → last.0 < from.0 → None ≡ spot_of (cut_high q from.0 to.0)
     unfolding cut_high
     high_narrow l h =
         let z = less_at to.0 q.size.0 u last less is in
@@ -225,7 +177,7 @@ module _ (q : Query) (from to : Address) (u : CheckedAddress) (less : u ≡ diff
       place : a.0 ≡ down (to.0 - q.size.0) q.align.0
       place = rounded ∙ ap (λ (x : ℕ). down x q.align.0) (less_at to.0 q.size.0 u last less is).0
 
-      pub high_short : a.0 < from.0 → checked.Outside ≡ spot_of (cut_high q from.0 to.0)
+      pub high_short : a.0 < from.0 → None ≡ spot_of (cut_high q from.0 to.0)
       unfolding cut_high
       high_short h =
           rw (
@@ -233,10 +185,10 @@ module _ (q : Query) (from to : Address) (u : CheckedAddress) (less : u ≡ diff
             lt-leb from.0 (down (to.0 - q.size.0) q.align.0) (omega (arith, place)),
           )
 
-      pub high_found : from.0 ≤ a.0 → checked.At a ≡ spot_of (cut_high q from.0 to.0)
+      pub high_found : from.0 ≤ a.0 → Some a ≡ spot_of (cut_high q from.0 to.0)
       unfolding cut_high
       high_found h =
           rw (
             le-leb q.size.0 to.0 (less_at to.0 q.size.0 u last less is).1,
             le-leb from.0 (down (to.0 - q.size.0) q.align.0) (omega (arith, place)),
-          ) (ap checked.At (λ i. record { 0 = place i }))
+          ) (ap Some (λ i. record { 0 = place i }))

@@ -3,3 +3,4 @@ pub mod Extremes
 pub mod Fits
 pub mod Stretches
 pub mod Ways
+pub mod Orders

@@ -1,9 +1,9 @@
 -- Fits in one stretch, and what a walk looks for. Only inner contracts and proofs cite this module. Assumes nothing.
-use Rattle.std.specs.Prelude.{ℕ, ◌+◌, ◌-◌, min, max, Bool, cond, not, ◌&&◌, leb}
+use Rattle.std.specs.Prelude.{ℕ, ◌+◌, ◌-◌, min, max, Bool, cond, not, ◌&&◌, leb, Some, None}
+use Rattle.std.specs.Prelude.{Option as Answer}
 use Rattle.std.proofs.Math.Option.{Option, none, some}
 use Rattle.address.specs.Numbers.{up, down}
-use Rattle.address.specs.declared.CheckedAddress.{CheckedAddress}
-use Rattle.address.specs.declared.CheckedAddress.TheVariants.{At, Outside}
+use Rattle.address.specs.declared.Address.{Address}
 use Rattle.regions.specs.declared.Tag.{Tag}
 use Rattle.regions.specs.declared.Region.{Region}
 use Rattle.regions.specs.Changes.{has}
@@ -31,9 +31,9 @@ cut_low q lo hi = cond (leb (up lo q.align.0 + q.size.0) hi) (some (up lo q.alig
 unfoldable pub cut_high : Query → ℕ → ℕ → Option ℕ
 cut_high q lo hi = cond (leb q.size.0 hi && leb lo (down (hi - q.size.0) q.align.0)) (some (down (hi - q.size.0) q.align.0)) none
 
-abbrev pub spot_of : Option ℕ → CheckedAddress
-spot_of none = Outside
-spot_of (some a) = At (record { 0 = a })
+abbrev pub spot_of : Option ℕ → Answer Address
+spot_of none = None
+spot_of (some a) = Some (record { 0 = a })
 
 abbrev pub hit_in : ℕ → ℕ → Option ℕ → Option Hit
 hit_in lo hi o = hit_of (λ a. run_of lo hi) o

@@ -6,10 +6,11 @@ ghost use Rattle.address.specs.Numbers.{power_of_two};
 ghost use Rattle.fits.specs.Eligible.{asks};
 ghost use Rattle.fits.specs.Steps.{spot_of, open_to, serves, cut_low, cut_high};
 
-use address::{Address, CheckedAddress, Size};
+use address::{Address, Size};
 use regions::{Region, Run, has};
 
 // Which way a walk goes: from the lowest address up, or from the highest down.
+// A value and no closure: the definitions of the first address in a walk's order (`first_in`, `first_of`) take it.
 #[derive(Clone, Copy)]
 pub enum Way {
     Up,
@@ -17,6 +18,7 @@ pub enum Way {
 }
 
 // A size, an alignment, a window from `start` up to, not including, `end`, a node (0xFFFFFFFF: any) and a wish (1 allows hotplug memory, 2 demands mirror).
+// Node and wish are C's numbers, of which `may_ask` refuses the others with 2; an end of 0 means the block's limit, as in C.
 #[derive(Clone, Copy)]
 pub struct Query {
     pub size: Size,
@@ -27,11 +29,11 @@ pub struct Query {
     pub wish: u32,
 }
 
-// An address and the whole free run that it lies in.
+// An address, and the whole free run that it lies in.
 #[derive(Clone, Copy)]
-pub enum Place {
-    Here(Address, Run),
-    Nowhere,
+pub struct Spot {
+    pub at: Address,
+    pub run: Run,
 }
 
 // Whether memory of these flags is open to the wish: not no-map, hotplug only if the wish has 1, and if it has 2 mirror only. Most memory has no flag.
@@ -41,70 +43,47 @@ fn open(wish: u32, flags: u32) -> bool
     if flags == 0 {
         return !has(2, wish);
     }
-    if has(4, flags) {
-        return false;
-    }
-    if wish % 2 < flags % 2 {
-        return false;
-    }
-    wish / 2 % 2 <= flags / 2 % 2
+    !has(4, flags) && flags % 2 <= wish % 2 && wish / 2 % 2 <= flags / 2 % 2
 }
 
 // Whether the record's addresses may lie in free runs that the query asks for: of its node, and open to its wish.
 pub fn serving(r: Region, q: Query) -> bool
     ensures { result ≡ serves (asks q) r }
 {
-    let flags = r.tag.flags;
-    if q.node == 0xFFFF_FFFF {
-        return open(q.wish, flags);
-    }
-    if r.tag.node != q.node {
-        return false;
-    }
-    open(q.wish, flags)
+    (q.node == 0xFFFF_FFFF || r.tag.node == q.node) && open(q.wish, r.tag.flags)
 }
 
-// The lowest address that fits from `from` up to, not including, `to`.
-pub fn fit_low(from: Address, to: Address, q: Query) -> CheckedAddress
+// The lowest address that fits from `from` up to, not including, `to`. It and the next are mirrors, not one function by a type or a constant: one rounds up and
+// tests the end, the other goes back by the size, rounds down and tests the start.
+pub fn fit_low(from: Address, to: Address, q: Query) -> Option<Address>
     requires { power_of_two q.align.0 ≡ true }
     ensures { result ≡ spot_of (cut_low q from.0 to.0) }
 {
-    let size = q.size;
-    let align = q.align;
-    if to.0 < from.0 {
-        return CheckedAddress::Outside;
+    if to < from || to.offset_from(from) < q.size {
+        return None;
     }
-    if to.offset_from(from).0 < size.0 {
-        return CheckedAddress::Outside;
+    let a = from.up(q.align)?;
+    let end = a.plus(q.size)?;
+    if to < end {
+        return None;
     }
-    let CheckedAddress::At(a) = from.up(align) else {
-        return CheckedAddress::Outside;
-    };
-    let CheckedAddress::At(e) = a.plus(size) else {
-        return CheckedAddress::Outside;
-    };
-    if to.0 < e.0 {
-        return CheckedAddress::Outside;
-    }
-    CheckedAddress::At(a)
+    Some(a)
 }
 
-// The highest address that fits from `from` up to, not including, `to`.
-pub fn fit_high(from: Address, to: Address, q: Query) -> CheckedAddress
+// The highest address that fits from `from` up to, not including, `to`. With a `?` a search from the top takes 3 instructions more for each record.
+pub fn fit_high(from: Address, to: Address, q: Query) -> Option<Address>
     requires { power_of_two q.align.0 ≡ true }
     ensures { result ≡ spot_of (cut_high q from.0 to.0) }
 {
-    let size = q.size;
-    let align = q.align;
-    let CheckedAddress::At(last) = to.minus(size) else {
-        return CheckedAddress::Outside;
+    let Some(last) = to.minus(q.size) else {
+        return None;
     };
-    if last.0 < from.0 {
-        return CheckedAddress::Outside;
+    if last < from {
+        return None;
     }
-    let a = last.down(align);
-    if a.0 < from.0 {
-        return CheckedAddress::Outside;
+    let a = last.down(q.align);
+    if a < from {
+        return None;
     }
-    CheckedAddress::At(a)
+    Some(a)
 }

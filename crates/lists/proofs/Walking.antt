@@ -1,5 +1,6 @@
 -- The walk over a table's records that builds the finished list of a changed table. Assumes nothing.
-use Prim.Native.Nat.{ℕ, zero, suc, ◌+◌, ◌*◌, ◌-◌, ◌≤◌, ◌<◌, min, max}
+use Rattle.std.proofs.Common.{Option, Some, None}
+use Prim.Native.Nat.{ℕ, zero, suc, ◌+◌, ◌*◌, ◌-◌, ◌/◌, ◌≤◌, ◌<◌, min, max}
 use mathlib.Core.Path.{◌≡◌, sym, ap, ◌∙◌}
 use mathlib.Core.Bool.{true}
 use mathlib.Core.List.{List, [], ◌∷◌}
@@ -7,10 +8,6 @@ use native.Mathlib.Omega.{arith}
 use native.Mathlib.Nat.{sub-zero}
 use lib.ListN.{length, drop}
 use Rattle.address.specs.declared.Address.{Address}
-use Rattle.address.specs.declared.CheckedAddress.{CheckedAddress}
-use Rattle.address.specs.declared.CheckedAddress.TheVariants.{At, Outside}
-use Rattle.address.specs.Numbers.{address}
-use Rattle.address.proofs.Checked.{address_at, address_outside}
 use Rattle.regions.specs.declared.Region.{Region}
 use Rattle.regions.specs.declared.State.{State}
 use Rattle.regions.specs.declared.State.TheVariants.{Absent, Present}
@@ -26,11 +23,10 @@ use Rattle.regions.proofs.RoundTrip.{rises_end}
 use Rattle.regions.proofs.Update.{walk, update}
 use Rattle.regions.proofs.Update.{update_shortest}
 use Rattle.regions.proofs.Records.{read_regions_rest, read_regions_end}
-use Rattle.lists.specs.declared.Pushed.{Pushed}
-use Rattle.lists.specs.declared.Pushed.TheVariants.{Count, Full}
-use Rattle.lists.specs.Steps.{HoldsList}
+use Rattle.lists.specs.declared.Built.{Built}
+use Rattle.lists.specs.Steps.{HoldsList, Became}
 use Rattle.records.specs.Steps.{AllFlagsBounded}
-use Rattle.lists.proofs.Pushing.{holds_list, holds_full, full_holds}
+use Rattle.lists.proofs.Pushing.{full_holds, became_list, became_full}
 
 module _ (k : State → State) (lo hi : ℕ) where
   -- ---- the list only grows
@@ -63,14 +59,14 @@ module _ (k : State → State) (lo hi : ℕ) where
       rw (x, y, z, o, push_none, push_none)
 
   -- a record that lies wholly inside the range
-  pub record-inside : (acc : List Region) (cap : ℕ) (r : Region) (o : Address) → o.0 ≡ end r → lo ≤ r.base.0 → o.0 ≤ hi → (b : Address) → b ≡ r.base → (v : State) → v ≡ k (Present r.tag) → (l : List ℕ) (a : Pushed)
+  pub record-inside : (acc : List Region) (cap : ℕ) (r : Region) (o : Address) → o.0 ≡ end r → lo ≤ r.base.0 → o.0 ≤ hi → (b : Address) → b ≡ r.base → (v : State) → v ≡ k (Present r.tag) → (l : List ℕ) (a : Option ℕ)
       → HoldsList l cap (push acc b.0 (o.0 - b.0) v) a → HoldsList l cap (stretch k lo hi acc r.base.0 (end r) (Present r.tag)) a
   record-inside acc cap r o eo i j b eb v ev l a p =
       let g : b.0 ≡ r.base.0 = ap (λ (x : Address). x.0) eb in
       rw (stretch_inside acc r.base.0 (end r) (Present r.tag) i (omega arith) (omega arith)) (rw (g, eo, ev) at p)
 
   -- any other
-  pub record-across : (acc : List Region) (cap : ℕ) (r : Region) (o : Address) → o.0 ≡ end r → (b : Address) → b ≡ r.base → (l : List ℕ) (a : Pushed)
+  pub record-across : (acc : List Region) (cap : ℕ) (r : Region) (o : Address) → o.0 ≡ end r → (b : Address) → b ≡ r.base → (l : List ℕ) (a : Option ℕ)
       → HoldsList l cap (stretch k lo hi acc b.0 o.0 (Present r.tag)) a → HoldsList l cap (stretch k lo hi acc r.base.0 (end r) (Present r.tag)) a
   record-across acc cap r o eo b eb l a p = let g : b.0 ≡ r.base.0 = ap (λ (x : Address). x.0) eb in rw (g, eo) at p
 
@@ -105,22 +101,17 @@ module _ (k : State → State) (lo hi : ℕ) (l : List ℕ) (n : ℕ) (w : lo �
 
 -- ---- the walk over a table's bytes, at record i of n
 
-module _ (k : State → State) (lo hi : ℕ) (whole : List Region) (l : List ℕ) (n : ℕ) (o : List ℕ) (m : ℕ) (c : Address) (i : ℕ)
-    (inv : whole ≡ walk k lo hi (read_regions m o) c.0 (read_regions (n - i) (drop (24 * i) l))) (ahead : Ahead c.0 (read_regions (n - i) (drop (24 * i) l))) where
+module _ (k : State → State) (lo hi : ℕ) (whole : List Region) (l : List ℕ) (n : ℕ) (p : Built) (c : Address) (i : ℕ)
+    (inv : whole ≡ walk k lo hi (read_regions p.count p.out.now) c.0 (read_regions (n - i) (drop (24 * i) l))) (ahead : Ahead c.0 (read_regions (n - i) (drop (24 * i) l))) where
   -- no record is left: the gap up to the end of the range
-  pub walk_end : n ≤ i → (e : ℕ) → e ≡ max c.0 hi → (cap : ℕ) (o' : List ℕ) (a : Pushed) → HoldsList o' cap (stretch k lo hi (read_regions m o) c.0 e Absent) a
-      → HoldsList o' cap whole a
+  pub walk_end : n ≤ i → (e : ℕ) → e ≡ max c.0 hi → (q : Built) (a : Option (Unit {0})) → Became p q (stretch k lo hi (read_regions p.count p.out.now) c.0 e Absent) a
+      → Became p q whole a
   unfolding walk
-  walk_end h e q cap o' a p = rw (inv, read_regions_end i n (drop (24 * i) l) h, ← q) p
+  walk_end h e f q a s = rw (inv, read_regions_end i n (drop (24 * i) l) h, ← f) s
 
   module _ (r : Region) (h : i < n) (e : r ≡ read_region (drop (24 * i) l)) where
     rest : read_regions (n - i) (drop (24 * i) l) ≡ r ∷ read_regions (n - (i + 1)) (drop (24 * (i + 1)) l)
     rest = rw e (read_regions_rest i n l h)
-
-    step : whole ≡ walk k lo hi (stretch k lo hi (stretch k lo hi (read_regions m o) c.0 r.base.0 Absent) r.base.0 (end r) (Present r.tag)) (end r)
-        (read_regions (n - (i + 1)) (drop (24 * (i + 1)) l))
-    unfolding walk
-    step = inv ∙ rw rest
 
     next_ahead : Ahead c.0 (r ∷ read_regions (n - (i + 1)) (drop (24 * (i + 1)) l))
     next_ahead = rw rest at ahead
@@ -128,45 +119,45 @@ module _ (k : State → State) (lo hi : ℕ) (whole : List Region) (l : List ℕ
     pub walk_low : c.0 ≤ r.base.0
     walk_low = next_ahead.0
 
-    walk_high : end r ≤ top
-    walk_high = next_ahead.1.0
+    pub walk_high : end r < 18446744073709551616
+    walk_high = omega (arith, next_ahead.1.0, top_is)
 
     pub walk_flags_bounded : r.tag.flags ≤ 7
     walk_flags_bounded = next_ahead.1.1.0
 
     -- the gap before the record
     gap : List Region
-    gap = stretch k lo hi (read_regions m o) c.0 r.base.0 Absent
+    gap = stretch k lo hi (read_regions p.count p.out.now) c.0 r.base.0 Absent
 
     -- and the record
     both : List Region
     both = stretch k lo hi gap r.base.0 (end r) (Present r.tag)
 
+    step : whole ≡ walk k lo hi both (end r) (read_regions (n - (i + 1)) (drop (24 * (i + 1)) l))
+    unfolding walk gap both
+    step = inv ∙ rw rest
+
     whole_longer : length both ≤ length whole
-    unfolding gap both
-    whole_longer = rw step (walk_longer k lo hi both (end r) (read_regions (n - (i + 1)) (drop (24 * (i + 1)) l)))
+    whole_longer = omega (arith, ap (length {A = Region}) step, walk_longer k lo hi both (end r) (read_regions (n - (i + 1)) (drop (24 * (i + 1)) l)))
 
-    module _ (x : CheckedAddress) (q : x ≡ address (end r)) where
-      pub walk_past : x ≡ Outside → (cap : ℕ) → HoldsList o cap whole Full
-      walk_past f cap = absurd (omega (arith, address_outside (end r) x q f, walk_high, top_is))
-
-    module _ (cap : ℕ) (o' : List ℕ) (a : Pushed) (p : HoldsList o' cap (stretch k lo hi (read_regions m o) c.0 r.base.0 Absent) a) where
-      pub walk_gap_full : a ≡ Full → HoldsList o' cap whole Full
+    module _ (p₁ : Built) (a : Option (Unit {0})) (s : Became p p₁ (stretch k lo hi (read_regions p.count p.out.now) c.0 r.base.0 Absent) a) where
+      pub walk_gap_full : a ≡ None → HoldsList p₁.out.now (length p.out.now / 24) whole None
       unfolding gap both
-      walk_gap_full f = full_holds o' cap whole (omega (arith, holds_full o' cap gap a p f, stretch_longer k lo hi gap r.base.0 (end r) (Present r.tag), whole_longer))
+      walk_gap_full f =
+          full_holds p₁.out.now _ whole (omega (arith, became_full p p₁ gap a s f, stretch_longer k lo hi gap r.base.0 (end r) (Present r.tag), whole_longer))
 
-      module _ (m' : ℕ) (f : a ≡ Count m') (o'' : List ℕ) (a' : Pushed) (p' : HoldsList o'' cap (stretch k lo hi (read_regions m' o') r.base.0 (end r) (Present r.tag)) a') where
-        holds_both : HoldsList o'' cap both a'
+      module _ (u : Unit {0}) (f : a ≡ Some u) (p₂ : Built) (a' : Option (Unit {0}))
+          (s' : Became p₁ p₂ (stretch k lo hi (read_regions p₁.count p₁.out.now) r.base.0 (end r) (Present r.tag)) a') where
+        second : Became p p₂ both a'
         unfolding gap both
-        holds_both = rw (holds_list o' cap gap a p m' f) at p'
+        second = record { same = s'.same ∙ s.same; long = s'.long ∙ s.long; holds = rw (became_list p p₁ gap a s u f, s.long) at s'.holds }
 
-        pub walk_full : a' ≡ Full → HoldsList o'' cap whole Full
-        walk_full g = full_holds o'' cap whole (omega (arith, holds_full o'' cap both a' holds_both g, whole_longer))
+        pub walk_full : a' ≡ None → HoldsList p₂.out.now (length p.out.now / 24) whole None
+        walk_full g = full_holds p₂.out.now _ whole (omega (arith, became_full p p₂ both a' second g, whole_longer))
 
-        module _ (m'' : ℕ) (g : a' ≡ Count m'') (x : CheckedAddress) (q : x ≡ address (end r)) (y : Address) (s : x ≡ At y) where
-          pub walk_next : whole ≡ walk k lo hi (read_regions m'' o'') y.0 (read_regions (n - (i + 1)) (drop (24 * (i + 1)) l))
-          unfolding gap both
-          walk_next = rw (holds_list o'' cap both a' holds_both m'' g, (address_at (end r) x y q s).0) step
+        module _ (u' : Unit {0}) (g : a' ≡ Some u') (y : Address) (d : y.0 ≡ end r) where
+          pub walk_next : whole ≡ walk k lo hi (read_regions p₂.count p₂.out.now) y.0 (read_regions (n - (i + 1)) (drop (24 * (i + 1)) l))
+          walk_next = rw (became_list p p₂ both a' second u' g, d) step
 
           pub walk_ahead : Ahead y.0 (read_regions (n - (i + 1)) (drop (24 * (i + 1)) l))
-          walk_ahead = rw (address_at (end r) x y q s).0 next_ahead.1.1.1
+          walk_ahead = rw d next_ahead.1.1.1

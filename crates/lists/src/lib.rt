@@ -1,25 +1,19 @@
 // A change over a range of a table: the finished shortest list is built in a scratch table.
 #![tactic(auto)]
 
-ghost use Rattle.std.specs.Prelude.{◌≡◌, true, [], ◌∷◌, ◌++◌, ◌+◌, ◌*◌, ◌-◌, ◌/◌, ◌^◌, ◌<◌, ◌≤◌, length};
-ghost use Rattle.regions.specs.Bytes.{read_regions};
+ghost use Rattle.std.specs.Prelude.{◌≡◌, true, [], ◌∷◌, ◌++◌, ◌+◌, ◌*◌, ◌-◌, ◌/◌, ◌^◌, ◌<◌, ◌≤◌, min, max, length, drop};
+ghost use Rattle.regions.specs.Bytes.{read_region, read_regions};
 ghost use Rattle.regions.specs.Meaning.{region, end as end_of, joins, join, push};
-ghost use Rattle.lists.specs.Steps.{HoldsList, Editable, finished};
+ghost use Rattle.lists.specs.Steps.{HoldsList, Became, Editable, finished};
 ghost use Rattle.records.specs.Steps.{Table};
 ghost use Rattle.regions.specs.Changes.{change};
 ghost use Rattle.regions.specs.declared.State.TheVariants.{Absent, Present};
 ghost use Rattle.regions.specs.Steps.{FlagsBounded, stretch};
 
-use address::{Address, CheckedAddress, CheckedSize};
+use address::Address;
+use records::table::Records;
 use regions::bytes::{get_region, put_region};
-use regions::{Change, Region, State};
-
-// How many records a scratch table holds now, or that it has no room.
-#[derive(Clone, Copy)]
-pub enum Pushed {
-    Count(usize),
-    Full,
-}
+use regions::{Change, Region, Run, State};
 
 // A change over the addresses from `lo` up to, not including, `hi`.
 #[derive(Clone, Copy)]
@@ -29,16 +23,24 @@ pub struct Edit {
     pub hi: Address,
 }
 
-// Appends a region to the `n` records of `out`, which has room for `cap`.
-fn append(out: &mut [u8], n: usize, cap: usize, r: Region) -> Pushed
-    requires { (n ≤ cap) × (24 * cap ≤ length out.old) }
-    ensures { HoldsList out.new cap (read_regions n out.old ++ (r ∷ [])) result }
-{
-    if n == cap {
-        return Pushed::Full;
+impl Edit {
+    // What of the addresses from `from` up to, not including, `to` lies in the range.
+    fn within(self, from: Address, to: Address) -> Run
+        ensures { (result.low.0 ≡ max from.0 (min self.lo.0 to.0)) × (result.end.0 ≡ max from.0 (min self.hi.0 to.0)) }
+    {
+        Run {
+            low: from.max(self.lo.min(to)),
+            end: from.max(self.hi.min(to)),
+        }
     }
-    put_region(out, 24 * n, r);
-    Pushed::Count(n + 1)
+}
+
+// A list that is being built: the first `count` records of `out`.
+// A slice and a count: fixed memory, a rule of the project.
+#[derive(Drop)]
+struct Built<'a> {
+    out: &'a mut [u8],
+    count: usize,
 }
 
 // The region `p`, which `r` joins, with r's addresses.
@@ -46,138 +48,128 @@ fn grown(p: Region, r: Region) -> Region
     requires { (joins p r.base.0 r.tag ≡ true) × (end_of r < 2 ^ 64) }
     ensures { result ≡ region p.base.0 (p.size.0 + r.size.0) r.tag }
 {
-    let base = p.base;
     let own = p.size;
-    let more = r.size;
-    let tag = r.tag;
-    let CheckedSize::Of(size) = own.plus(more) else {
-        return p;
-    };
-    Region { base, size, tag }
-}
-
-// Puts a region behind the `n` records of `out`: the last one grows by it, or it is one more.
-fn push_region(out: &mut [u8], n: usize, cap: usize, r: Region) -> Pushed
-    requires { (n ≤ cap) × ((24 * cap ≤ length out.old) × (end_of r < 2 ^ 64)) }
-    ensures { HoldsList out.new cap (join (read_regions n out.old) r.base.0 r.size.0 r.tag) result }
-{
-    if n == 0 {
-        return append(out, n, cap, r);
+    Region {
+        base: p.base,
+        size: own.add(r.size),
+        tag: r.tag,
     }
-    let at = 24 * (n - 1);
-    let last = get_region(out, at);
-    let base = r.base;
-    let tag = r.tag;
-    if last.joins(base, tag) {
-        put_region(out, at, grown(last, r));
-        return Pushed::Count(n);
+}
+
+impl<'a> Built<'a> {
+    // The last region.
+    fn last(&self) -> Region
+        requires { (0 < self.now.count) × (24 * self.now.count ≤ length self.now.out.now) }
+        ensures { result ≡ read_region (drop (24 * (self.now.count - 1)) self.now.out.now) }
+    {
+        get_region(self.out, 24 * (self.count - 1))
     }
-    append(out, n, cap, r)
-}
 
-// Puts the addresses from `from` up to, not including, `to`, all of one state, behind the records.
-fn push_piece(out: &mut [u8], n: usize, cap: usize, from: Address, to: Address, v: State) -> Pushed
-    requires { (n ≤ cap) × ((24 * cap ≤ length out.old) × (from.0 ≤ to.0)) }
-    ensures { HoldsList out.new cap (push (read_regions n out.old) from.0 (to.0 - from.0) v) result }
-{
-    let State::Present(tag) = v else {
-        return Pushed::Count(n);
-    };
-    if from.0 == to.0 {
-        return Pushed::Count(n);
-    }
-    let r = Region {
-        base: from,
-        size: to.offset_from(from),
-        tag,
-    };
-    push_region(out, n, cap, r)
-}
-
-// Puts a stretch of one state behind the records: as it was outside the edit's range, changed inside it.
-fn push_stretch(
-    out: &mut [u8],
-    n: usize,
-    cap: usize,
-    edit: Edit,
-    from: Address,
-    to: Address,
-    v: State,
-) -> Pushed
-    requires { (n ≤ cap) × ((24 * cap ≤ length out.old) × ((from.0 ≤ to.0) × (Editable edit × FlagsBounded v))) }
-    ensures { HoldsList out.new cap (stretch (change edit.change) edit.lo.0 edit.hi.0 (read_regions n out.old) from.0 to.0 v) result }
-{
-    let lo = edit.lo;
-    let hi = edit.hi;
-    let change = edit.change;
-    let below = from.max(lo.min(to));
-    let above = from.max(hi.min(to));
-    let Pushed::Count(m) = push_piece(out, n, cap, from, below, v) else {
-        return Pushed::Full;
-    };
-    let Pushed::Count(k) = push_piece(out, m, cap, below, above, change.apply(v)) else {
-        return Pushed::Full;
-    };
-    push_piece(out, k, cap, above, to, v)
-}
-
-// Puts the addresses from `from` up to, not including, `to`, of which the table has none, behind the records: filled where the edit fills them.
-fn push_gap(out: &mut [u8], n: usize, cap: usize, edit: Edit, from: Address, to: Address) -> Pushed
-    requires { (n ≤ cap) × ((24 * cap ≤ length out.old) × ((from.0 ≤ to.0) × Editable edit)) }
-    ensures { HoldsList out.new cap (stretch (change edit.change) edit.lo.0 edit.hi.0 (read_regions n out.old) from.0 to.0 Absent) result }
-{
-    let change = edit.change;
-    let lo = edit.lo;
-    let hi = edit.hi;
-    let State::Present(tag) = change.apply(State::Absent) else {
-        return Pushed::Count(n);
-    };
-    let below = from.max(lo.min(to));
-    let above = from.max(hi.min(to));
-    push_piece(out, n, cap, below, above, State::Present(tag))
-}
-
-// Puts a record behind, changed inside the edit's range.
-fn push_record(out: &mut [u8], n: usize, cap: usize, edit: Edit, r: Region, end: Address) -> Pushed
-    requires { (n ≤ cap) × ((24 * cap ≤ length out.old) × ((end.0 ≡ end_of r) × ((r.tag.flags ≤ 7) × Editable edit))) }
-    ensures { HoldsList out.new cap (stretch (change edit.change) edit.lo.0 edit.hi.0 (read_regions n out.old) r.base.0 (end_of r) (Present r.tag)) result }
-{
-    let base = r.base;
-    let tag = r.tag;
-    if edit.lo.0 <= base.0 {
-        if end.0 <= edit.hi.0 {
-            let change = edit.change;
-            return push_piece(out, n, cap, base, end, change.apply(State::Present(tag)));
+    // Appends a region, if there is room.
+    fn append(&mut self, r: Region) -> Option<()>
+        requires { 24 * self.old.count ≤ length self.old.out.now }
+        ensures { Became self.old self.new (read_regions self.old.count self.old.out.now ++ (r ∷ [])) result }
+    {
+        let at = 24 * self.count;
+        if self.out.len() - at < 24 {
+            return None;
         }
+        put_region(self.out, at, r);
+        self.count += 1;
+        Some(())
     }
-    push_stretch(out, n, cap, edit, base, end, State::Present(tag))
+
+    // Puts a region behind the list: the last one grows by it, or it is one more.
+    fn push_region(&mut self, r: Region) -> Option<()>
+        requires { (24 * self.old.count ≤ length self.old.out.now) × (end_of r < 2 ^ 64) }
+        ensures { Became self.old self.new (join (read_regions self.old.count self.old.out.now) r.base.0 r.size.0 r.tag) result }
+    {
+        if self.count == 0 {
+            return self.append(r);
+        }
+        let last = self.last();
+        if last.joins(r.base, r.tag) {
+            put_region(self.out, 24 * (self.count - 1), grown(last, r));
+            return Some(());
+        }
+        self.append(r)
+    }
+
+    // Puts the addresses from `from` up to, not including, `to`, all of one state, behind the list.
+    // The ends stay two addresses, here and below: a stretch is cut at both ends of `inside`, and a Run of each piece would be made for the call alone.
+    fn push_piece(&mut self, from: Address, to: Address, v: State) -> Option<()>
+        requires { (24 * self.old.count ≤ length self.old.out.now) × (from.0 ≤ to.0) }
+        ensures { Became self.old self.new (push (read_regions self.old.count self.old.out.now) from.0 (to.0 - from.0) v) result }
+    {
+        let State::Present(tag) = v else {
+            return Some(());
+        };
+        if from == to {
+            return Some(());
+        }
+        let size = to.offset_from(from);
+        self.push_region(Region {
+            base: from,
+            size,
+            tag,
+        })
+    }
+
+    // Puts a stretch of one state behind the list: as it was outside the edit's range, changed inside it.
+    fn push_stretch(&mut self, edit: Edit, from: Address, to: Address, v: State) -> Option<()>
+        requires { (24 * self.old.count ≤ length self.old.out.now) × ((from.0 ≤ to.0) × (Editable edit × FlagsBounded v)) }
+        ensures { Became self.old self.new (stretch (change edit.change) edit.lo.0 edit.hi.0 (read_regions self.old.count self.old.out.now) from.0 to.0 v) result }
+    {
+        let change = edit.change;
+        let inside = edit.within(from, to);
+        self.push_piece(from, inside.low, v)?;
+        self.push_piece(inside.low, inside.end, change.apply(v))?;
+        self.push_piece(inside.end, to, v)
+    }
+
+    // Puts the addresses from `from` up to, not including, `to`, of which the table has none, behind the list: filled where the edit fills them.
+    fn push_gap(&mut self, edit: Edit, from: Address, to: Address) -> Option<()>
+        requires { (24 * self.old.count ≤ length self.old.out.now) × ((from.0 ≤ to.0) × Editable edit) }
+        ensures { Became self.old self.new (stretch (change edit.change) edit.lo.0 edit.hi.0 (read_regions self.old.count self.old.out.now) from.0 to.0 Absent) result }
+    {
+        let change = edit.change;
+        let State::Present(tag) = change.apply(State::Absent) else {
+            return Some(());
+        };
+        let inside = edit.within(from, to);
+        self.push_piece(inside.low, inside.end, State::Present(tag))
+    }
+
+    // Puts a record behind the list, changed inside the edit's range.
+    fn push_record(&mut self, edit: Edit, r: Region, end: Address) -> Option<()>
+        requires { (24 * self.old.count ≤ length self.old.out.now) × ((end.0 ≡ end_of r) × ((r.tag.flags ≤ 7) × Editable edit)) }
+        ensures { Became self.old self.new (stretch (change edit.change) edit.lo.0 edit.hi.0 (read_regions self.old.count self.old.out.now) r.base.0 (end_of r) (Present r.tag)) result }
+    {
+        let base = r.base;
+        let tag = r.tag;
+        if edit.lo <= base && end <= edit.hi {
+            let change = edit.change;
+            return self.push_piece(base, end, change.apply(State::Present(tag)));
+        }
+        self.push_stretch(edit, base, end, State::Present(tag))
+    }
 }
 
 // Builds the finished shortest list of changed records in `out`, if it has room there.
-pub fn change_list(t: &[u8], count: usize, out: &mut [u8], edit: Edit) -> Pushed
-    requires { Table t.now count × Editable edit }
-    ensures { HoldsList out.new (length out.old / 24) (finished edit (read_regions count t.now)) result }
+pub fn change_list(table: Records, out: &mut [u8], edit: Edit) -> Option<usize>
+    requires { Table table.bytes.now table.count × Editable edit }
+    ensures { HoldsList out.new (length out.old / 24) (finished edit (read_regions table.entry.count table.entry.bytes.now)) result }
 {
-    let cap = out.len() / 24;
-    let hi = edit.hi;
-    let mut n = 0;
+    let mut built = Built { out, count: 0 };
     let mut from = Address(0);
-    let mut i = 0;
-    while i < count {
-        let r = get_region(t, 24 * i);
-        let CheckedAddress::At(end) = r.end() else {
-            return Pushed::Full;
-        };
+    for i in 0..table.count {
+        let r = table.get(i);
         let base = r.base;
-        let Pushed::Count(m) = push_gap(out, n, cap, edit, from, base) else {
-            return Pushed::Full;
-        };
-        let Pushed::Count(k) = push_record(out, m, cap, edit, r, end) else {
-            return Pushed::Full;
-        };
-        n = k;
+        let end = base.add(r.size);
+        built.push_gap(edit, from, base)?;
+        built.push_record(edit, r, end)?;
         from = end;
-        i += 1;
     }
-    push_gap(out, n, cap, edit, from, from.max(hi))
+    built.push_gap(edit, from, from.max(edit.hi))?;
+    Some(built.count)
 }

@@ -29,8 +29,8 @@ use Rattle.board.specs.Board.{intake_tree}
 use Rattle.board.specs.Pairs.{readable_pair, asks_pair, intake_trees}
 use Rattle.board.proofs.Good.{tree_good, pair_good}
 use Rattle.fits.specs.declared.Query.{Query}
-use Rattle.fits.specs.declared.Place.{Place}
-use Rattle.fits.specs.declared.Place.TheVariants.{Here, Nowhere}
+use Rattle.std.specs.Prelude.{Option, Some, None}
+use Rattle.fits.specs.declared.Spot.{Spot}
 use Rattle.seek.specs.Search.{runs_of, found_place, next_place}
 use Rattle.pages.specs.Pages.{pieces_from, given, hand_over}
 use Rattle.search.specs.Answers.{Answer, answer, with_buffer, refuse, unless as unlessAnswer, slip_of, with_slip, asking, askable, refusal, check_number, next_number, place_answer, find, allocate, allocate_answer, reserved, next_free}
@@ -188,9 +188,9 @@ module _ (b slip : List ℕ) where
   asking_fair n x c h =
       with_slip_fair b slip (unlessAnswer (eqb n 0) n b x) (λ l. unless_fair b slip l (eqb n 0) n x (eqb-false n 0) (λ e. h l (c (eqb-true n 0 e))))
 
-  place_fair : length slip ≡ 16 → good current b ≡ true → (p : Place) → Fair b slip [] (place_answer b p)
-  place_fair l g Nowhere = refuse_fair b slip l 5 (λ z. omega (arith, z))
-  place_fair l g (Here a run) = done_fair b slip l b _ g
+  place_fair : length slip ≡ 16 → good current b ≡ true → (p : Option Spot) → Fair b slip [] (place_answer b p)
+  place_fair l g None = refuse_fair b slip l 5 (λ z. omega (arith, z))
+  place_fair l g (Some s) = done_fair b slip l b _ g
 
   find_fair : (q : Query) → Fair b slip [] (find current q b slip)
   unfolding find
@@ -207,12 +207,12 @@ module _ (b slip : List ℕ) where
           by true e = done_fair b slip l o.block _ h
           by false e = refuse_fair b slip l o.number (eqb-false o.number 0 e)
 
-      go : length slip ≡ 16 → good current b ≡ true → (p : Place) → Fair b slip [] (allocate_answer current b q.size.0 p)
-      go l g Nowhere = refuse_fair b slip l 5 (λ z. omega (arith, z))
-      go l g (Here a run) =
-          let o : Outcome = change_range current Taken (Fill (tag 0 0)) a.0 q.size.0 b in
-          let h : good current o.block ≡ true = rw g at (command_good b g (command Reserve a.0 q.size.0)) in
-          reserving l a.0 run.end.0 o h
+      go : length slip ≡ 16 → good current b ≡ true → (p : Option Spot) → Fair b slip [] (allocate_answer current b q.size.0 p)
+      go l g None = refuse_fair b slip l 5 (λ z. omega (arith, z))
+      go l g (Some s) =
+          let o : Outcome = change_range current Taken (Fill (tag 0 0)) s.at.0 q.size.0 b in
+          let h : good current o.block ≡ true = rw g at (command_good b g (command Reserve s.at.0 q.size.0)) in
+          reserving l s.at.0 s.run.end.0 o h
 
   next_free_fair : (from node wish : ℕ) → Fair b slip [] (next_free current from node wish b slip)
   unfolding next_free

@@ -1,12 +1,19 @@
 -- The call that is lent no block: a property looked up in a service tree before a board's (E9). Its number and every byte of its slip. Assumes nothing.
-use Rattle.std.specs.Prelude.{ℕ, ◌≡◌, List, [], length, replicate}
+use Rattle.std.specs.Prelude.{ℕ, ◌≡◌, List, [], Option, Some, None, Result, Ok, Err, length, replicate}
+use Rattle.refusals.specs.declared.Refusal.{Refusal}
 use Rattle.paths.specs.declared.pairs.Place.{Place}
-use Rattle.paths.specs.Lookup.{pair_place, number_of}
+use Rattle.paths.specs.Lookup.{pair_place, holder_of, number_of}
 use Rattle.search.specs.Answers.{Answer, answer, slip_of, with_slip}
 
--- which tree has it, and the offset and length of its value there: zero where none has it, and where a tree's form fails
-abbrev pub told : Place → Answer
-told r = answer (number_of r.holder) [] (slip_of r.offset r.length)
+-- the offset and length of its value in the tree that has it: zero where none has it, and where a tree's form fails
+abbrev pub slip_to : Result (Option Place) Refusal → List ℕ
+slip_to (Ok (Some r)) = slip_of r.offset r.length
+slip_to (Ok None) = slip_of 0 0
+slip_to (Err e) = slip_of 0 0
+
+-- which tree has it, and these
+abbrev pub told : Result (Option Place) Refusal → Answer
+told x = answer (number_of (holder_of x)) [] (slip_to x)
 
 -- a slip of another length gets 8 and stays as lent
 unfoldable pub looked_up : List ℕ → List ℕ → List ℕ → List ℕ → List ℕ → Answer

@@ -1,4 +1,5 @@
 // The archive that boot code links: the functions of `memblock` under C names. Each calls its own and states the same contract.
+// A crate of its own, since a library that programs stand on cannot be a static library as well. The names and the parameters are those of the C interface.
 #![tactic(auto)]
 
 ghost use Rattle.std.specs.Prelude.{◌≡◌, []};

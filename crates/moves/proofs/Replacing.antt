@@ -1,5 +1,5 @@
 -- Records put in the place of others: the rest is moved, and the table spells the new list. Assumes nothing.
-use Prim.Native.Nat.{ℕ, zero, suc, ◌+◌, ◌*◌, ◌-◌, ◌/◌, ◌≤◌, ◌<◌}
+use Prim.Native.Nat.{ℕ, ◌+◌, ◌*◌, ◌-◌, ◌/◌, ◌≤◌, ◌<◌}
 use mathlib.Core.Path.{◌≡◌, refl, sym, ap, ap₂, ◌∙◌}
 use mathlib.Core.Bool.{true}
 use mathlib.Core.List.{List, [], ◌∷◌, ◌++◌, append_assoc, append-nil}
@@ -7,6 +7,7 @@ use native.Mathlib.Omega.{arith}
 use native.Mathlib.Nat.{sub-zero}
 use lib.ListN.{length, take, drop, replicate, length-append, length-drop, length-replicate, replicate-append-replicate, take-append-drop, drop_of_length-le}
 use lib.Seq.{sets, sets-eq, take_at, drop_at, drop-drop, length-take-le, length-sets}
+use Rattle.std.proofs.lemmas.List.{drop-replicate, take_rest}
 use Rattle.regions.specs.declared.Region.{Region}
 use Rattle.regions.specs.Bytes.{read_region, read_regions, region_bytes, regions_bytes, table_bytes}
 use Rattle.regions.proofs.Numbers.{Bytes, bytes_drop, sets_append}
@@ -15,7 +16,8 @@ use Rattle.records.specs.Checks.{all_zeros}
 use Rattle.records.specs.Steps.{put}
 use Rattle.records.proofs.Zeros.{zeros_replicate}
 use Rattle.records.proofs.Placing.{take_read, drop_read}
-use Rattle.moves.proofs.Moving.{rest, take_sets}
+use Rattle.records.proofs.Copying.{copied_records}
+use Rattle.moves.proofs.Moving.{take_sets}
 
 -- ---- records spelled, and their parts
 
@@ -69,15 +71,20 @@ module _ (t : List ℕ) (count stop new : ℕ) (h : stop ≤ count) (r : 24 * co
       ap (λ (y : List ℕ). take left t' ++ (y ++ drop (end - left) (drop left t'))) z ∙ sym (sets_zeros t' left (end - left) (omega arith))
       ∙ sets_two t t' c (replicate (end - left) 0) (24 * new) left e' o ∙ ap (λ (y : ℕ). sets t (24 * new) (c ++ replicate y 0)) (sym m)
 
-drop_replicate : (k n : ℕ) → drop k (replicate {A = ℕ} n 0) ≡ replicate (n - k) 0
-drop_replicate zero n = rw sub-zero
-drop_replicate (suc k) zero = let e : 0 - suc k ≡ 0 = omega arith in rw e
-drop_replicate (suc k) (suc n) = let e : suc n - suc k ≡ n - k = omega arith in drop_replicate k n ∙ rw e
-
 -- ---- and the new records put before it
 
+-- bytes that were copied into others are spelled by their records
+pub copied_spelled : (n : ℕ) (src d p q : List ℕ) → 24 * n ≤ length src → Bytes (p ++ ((take (24 * n) src ++ d) ++ q)) → regions_bytes (read_regions n src) ≡ take (24 * n) src
+copied_spelled n src d p q h b =
+    let k : length (take (24 * n) src) ≡ 24 * n = length-take-le (24 * n) src h in
+    let e : drop (length p) (p ++ ((take (24 * n) src ++ d) ++ q)) ≡ take (24 * n) src ++ (d ++ q) = drop_at p _ (length p) refl ∙ append_assoc (take (24 * n) src) d q in
+    let c : Bytes (take (24 * n) src ++ (d ++ q)) = rw e at (bytes_drop (length p) _ b) in
+    let l : 24 * n ≤ length (take (24 * n) src ++ (d ++ q)) = omega (arith, length-append (take (24 * n) src) (d ++ q)) in
+    ap regions_bytes (sym (copied_records (d ++ q) src n h)) ∙ regions_bytes_read n _ c l ∙ take_at (take (24 * n) src) (d ++ q) (24 * n) k
+
 module _ (t src : List ℕ) (count first stop n : ℕ) (a : first ≤ stop) (b : stop ≤ count) (r : 24 * count ≤ length t) (s : 24 * (count - stop + (first + n)) ≤ length t)
-    (w : 24 * n ≤ length src) (d : length t ≡ 24 * (length t / 24)) (z : all_zeros (drop (24 * count) t) ≡ true) (bt : Bytes t) (bs : Bytes src) where
+    (w : 24 * n ≤ length src) (d : length t ≡ 24 * (length t / 24)) (z : all_zeros (drop (24 * count) t) ≡ true) (bt : Bytes t)
+    (bs : regions_bytes (read_regions n src) ≡ take (24 * n) src) where
   tail : List ℕ
   tail = take (24 * (count - stop)) (drop (24 * stop) t)
 
@@ -90,7 +97,7 @@ module _ (t src : List ℕ) (count first stop n : ℕ) (a : first ≤ stop) (b :
       let e : 24 * count + (i - 24 * count) ≡ i = omega arith in
       let f : length (drop (24 * count) t) - (i - 24 * count) ≡ length t - i = simp length-drop (omega arith) in
       ap (λ (y : ℕ). drop y t) (sym e) ∙ sym (drop-drop (i - 24 * count) (24 * count) t)
-      ∙ ap (drop (i - 24 * count)) (zeros_replicate (drop (24 * count) t) z) ∙ drop_replicate (i - 24 * count) (length (drop (24 * count) t)) ∙ ap (λ (y : ℕ). replicate y 0) f
+      ∙ ap (drop (i - 24 * count)) (zeros_replicate (drop (24 * count) t) z) ∙ drop-replicate (i - 24 * count) (length (drop (24 * count) t)) 0 ∙ ap (λ (y : ℕ). replicate y 0) f
 
   -- how many bytes are left behind
   more : ℕ
@@ -135,7 +142,7 @@ module _ (t src : List ℕ) (count first stop n : ℕ) (a : first ≤ stop) (b :
         regions_append,
         regions_append,
         regions_bytes_read first t bt (omega arith),
-        regions_bytes_read n src bs w,
+        bs,
         regions_bytes_read (count - stop) (drop (24 * stop) t) (bytes_drop (24 * stop) t bt) l,
         append_assoc,
         append_assoc,
@@ -151,7 +158,7 @@ module _ (t src : List ℕ) (count first stop n : ℕ) (a : first ≤ stop) (b :
       let u : take (24 * first) t' ≡ take (24 * first) t = ap (take (24 * first)) f ∙ take_sets moved t (24 * first) (24 * (first + n)) (omega arith) in
       let v : drop (24 * (first + n)) t' ≡ tail ++ replicate more 0 = ap (drop (24 * (first + n))) f ∙ behind in
       let g : drop (24 * n) (drop (24 * first) t') ≡ tail ++ replicate more 0 = drop-drop (24 * n) (24 * first) t' ∙ ap (λ (y : ℕ). drop y t') l ∙ v in
-      let o : x ≡ take (24 * n) src ++ (tail ++ replicate more 0) = q ∙ ap (λ (y : List ℕ). take (24 * n) src ++ drop (24 * n) y) (rest t' (24 * first)) ∙ ap (λ (y : List ℕ). take (24 * n) src ++ y) g in
+      let o : x ≡ take (24 * n) src ++ (tail ++ replicate more 0) = q ∙ ap (λ (y : List ℕ). take (24 * n) src ++ drop (24 * n) y) (take_rest t' (24 * first)) ∙ ap (λ (y : List ℕ). take (24 * n) src ++ y) g in
       let k : length (drop (24 * first) t') ≤ length t' - 24 * first = simp length-drop (omega arith) in
       let d : drop (length t' - 24 * first) (drop (24 * first) t') ≡ [] = drop_of_length-le (drop (24 * first) t') k in
       ap₂ (λ (y s : List ℕ). y ++ s) u (ap₂ (λ (y s : List ℕ). y ++ s) o d ∙ append-nil (take (24 * n) src ++ (tail ++ replicate more 0))) ∙ sym spelled
@@ -175,9 +182,9 @@ replaced_one t count first stop a b c d e f bt t' z r g bz h len q =
     let x₄ : read_region (drop (24 * first) z) ≡ r = ap (λ (y : List ℕ). read_region (drop (24 * first) y)) q ∙ put_here t' (24 * first) r k g in
     let w : 24 * 1 ≤ length (drop (24 * first) z) = omega (arith, ap (length {A = ℕ}) x₂ ∙ length-append (region_bytes r) (drop 24 (drop (24 * first) t'))) in
     let x : List ℕ = take (24 * 1) (drop (24 * first) z) ++ drop (24 * 1) (take (length t' - 24 * first) (drop (24 * first) t')) in
-    let p = replaced t (drop (24 * first) z) count first stop 1 a b c d w e f bt (bytes_drop (24 * first) z bz) t' x h refl in
+    let p = replaced t (drop (24 * first) z) count first stop 1 a b c d w e f bt (regions_bytes_read 1 (drop (24 * first) z) (bytes_drop (24 * first) z bz) w) t' x h refl in
     let o : length (drop (24 * first) t') ≤ length t' - 24 * first = simp length-drop (omega arith) in
     let y₁ : drop (length t' - 24 * first) (drop (24 * first) t') ≡ [] = drop_of_length-le (drop (24 * first) t') o in
-    let y₂ : x ≡ region_bytes r ++ drop 24 (drop (24 * first) t') = ap₂ (λ (y s : List ℕ). y ++ drop 24 s) x₃ (rest t' (24 * first)) in
+    let y₂ : x ≡ region_bytes r ++ drop 24 (drop (24 * first) t') = ap₂ (λ (y s : List ℕ). y ++ drop 24 s) x₃ (take_rest t' (24 * first)) in
     let y₃ : x ++ drop (length t' - 24 * first) (drop (24 * first) t') ≡ region_bytes r ++ drop 24 (drop (24 * first) t') = ap₂ (λ (y s : List ℕ). y ++ s) y₂ y₁ ∙ append-nil (region_bytes r ++ drop 24 (drop (24 * first) t')) in
     x₁ ∙ ap (λ (y : List ℕ). take (24 * first) t' ++ y) (sym y₃) ∙ p ∙ ap (λ (y : Region). table_bytes (length t / 24) (put first stop (y ∷ []) (read_regions count t))) x₄

@@ -7,59 +7,48 @@ ghost use Rattle.regions.specs.Bytes.{read_regions, table_bytes};
 ghost use Rattle.records.specs.Checks.{all_zeros};
 ghost use Rattle.records.specs.Steps.{put};
 
-use records::table::{copy_front, put_zeros};
+use records::table::{Records, copy_front, put_zeros};
 use regions::Region;
 use regions::bytes::put_region;
 
-// Copies four records of `t` from one place to another.
-fn copy_four(t: &mut [u8], from: usize, to: usize)
-    requires { (from + 96 ≤ length t.old) × (to + 96 ≤ length t.old) }
-    ensures { t.new ≡ sets t.old to (take 96 (drop from t.old)) }
+// Copies `N` bytes of `t` from one place to another.
+fn copy_piece<const N: usize>(t: &mut [u8], from: usize, to: usize)
+    requires { (from + N ≤ length t.old) × (to + N ≤ length t.old) }
+    ensures { t.new ≡ sets t.old to (take N (drop from t.old)) }
 {
-    let mut piece = [0u8; 96];
-    copy_front(&mut piece, &t[from..], 96);
-    copy_front(&mut t[to..], &piece, 96);
+    let mut piece = [0u8; N];
+    piece.copy_from_slice(&t[from..from + N]);
+    t[to..to + N].copy_from_slice(&piece);
 }
 
-// Copies one.
-fn copy_one(t: &mut [u8], from: usize, to: usize)
-    requires { (from + 24 ≤ length t.old) × (to + 24 ≤ length t.old) }
-    ensures { t.new ≡ sets t.old to (take 24 (drop from t.old)) }
-{
-    let mut piece = [0u8; 24];
-    copy_front(&mut piece, &t[from..], 24);
-    copy_front(&mut t[to..], &piece, 24);
-}
-
-// Moves the records from `from` up to, not including, `end` higher by `by` records.
+// Moves the records from `from` up to, not including, `end` higher by `by` records. Four at a time: the library's copy_within takes a fifth longer.
 pub fn move_up(t: &mut [u8], from: usize, end: usize, by: usize)
     requires { (from ≤ end) × (24 * (end + by) ≤ length t.old) }
     ensures { t.new ≡ sets t.old (24 * (from + by)) (take (24 * (end - from)) (drop (24 * from) t.old)) }
 {
-    let mut i = end;
-    while 4 <= i - from {
-        i -= 4;
-        copy_four(t, 24 * i, 24 * (i + by));
+    let mut left = end;
+    while 4 <= left - from {
+        left -= 4;
+        copy_piece::<96>(t, 24 * left, 24 * (left + by));
     }
-    while from < i {
-        i -= 1;
-        copy_one(t, 24 * i, 24 * (i + by));
+    for i in (from..left).rev() {
+        copy_piece::<24>(t, 24 * i, 24 * (i + by));
     }
 }
 
 // Moves them lower.
+// The mirror of `move_up`: from the front, so that no record is written over before it is moved.
 pub fn move_down(t: &mut [u8], from: usize, end: usize, by: usize)
     requires { (from ≤ end) × ((by ≤ from) × (24 * end ≤ length t.old)) }
     ensures { t.new ≡ sets t.old (24 * (from - by)) (take (24 * (end - from)) (drop (24 * from) t.old)) }
 {
-    let mut i = from;
-    while 4 <= end - i {
-        copy_four(t, 24 * i, 24 * (i - by));
-        i += 4;
+    let mut done = from;
+    while 4 <= end - done {
+        copy_piece::<96>(t, 24 * done, 24 * (done - by));
+        done += 4;
     }
-    while i < end {
-        copy_one(t, 24 * i, 24 * (i - by));
-        i += 1;
+    for i in done..end {
+        copy_piece::<24>(t, 24 * i, 24 * (i - by));
     }
 }
 
@@ -81,17 +70,20 @@ fn shift(t: &mut [u8], count: usize, stop: usize, new: usize)
     put_zeros(&mut t[left..end], 0);
 }
 
-// Puts the first `n` records of `src` in the place of those from `first` up to, not including, `stop`, in a table of `count` records with zeros behind.
-pub fn replace(t: &mut [u8], count: usize, first: usize, stop: usize, src: &[u8], n: usize)
-    requires { ((first ≤ stop) × (stop ≤ count)) × (((24 * count ≤ length t.old) × (24 * (count - stop + (first + n)) ≤ length t.old)) × ((24 * n ≤ length src.now) × ((length t.old ≡ 24 * (length t.old / 24)) × (all_zeros (drop (24 * count) t.old) ≡ true)))) }
-    ensures { t.new ≡ table_bytes (length t.old / 24) (put first stop (read_regions n src.now) (read_regions count t.old)) }
+// Puts `others` in the place of the records from `first` up to, not including, `stop`, in a table of `count` records with zeros behind.
+// The two places stay two numbers: `put` of the theorems has them so, and `shift` is given one of them.
+#[inline(always)]
+pub fn replace(t: &mut [u8], count: usize, first: usize, stop: usize, others: Records)
+    requires { ((first ≤ stop) × (stop ≤ count)) × (((24 * count ≤ length t.old) × (24 * (count - stop + (first + others.count)) ≤ length t.old)) × ((24 * others.count ≤ length others.bytes.now) × ((length t.old ≡ 24 * (length t.old / 24)) × (all_zeros (drop (24 * count) t.old) ≡ true)))) }
+    ensures { t.new ≡ table_bytes (length t.old / 24) (put first stop (read_regions others.entry.count others.entry.bytes.now) (read_regions count t.old)) }
 {
     let from = 24 * first;
-    shift(t, count, stop, first + n);
-    copy_front(&mut t[from..], src, 24 * n);
+    shift(t, count, stop, first + others.count);
+    copy_front(&mut t[from..], others.bytes, 24 * others.count);
 }
 
 // Puts one record in their place.
+// Apart from `replace`, for which its bytes would have to be written to another table first.
 pub fn replace_one(t: &mut [u8], count: usize, first: usize, stop: usize, r: Region)
     requires { ((first ≤ stop) × (stop ≤ count)) × (((24 * count ≤ length t.old) × (24 * (count - stop + (first + 1)) ≤ length t.old)) × ((length t.old ≡ 24 * (length t.old / 24)) × (all_zeros (drop (24 * count) t.old) ≡ true))) }
     ensures { t.new ≡ table_bytes (length t.old / 24) (put first stop (r ∷ []) (read_regions count t.old)) }

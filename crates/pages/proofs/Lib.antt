@@ -7,7 +7,6 @@ pub mod Cover
 pub mod Resume
 pub mod Trying
 pub mod Writing
-pub mod Entering
 pub mod RunPages
 pub mod Places
 pub mod Walking

@@ -14,17 +14,16 @@ use Rattle.address.proofs.Rounding.{down_le, down_near}
 use Rattle.regions.specs.declared.Region.{Region}
 use Rattle.regions.specs.declared.State.TheVariants.{Absent}
 use Rattle.regions.specs.Meaning.{at, top, top_is}
-use Rattle.regions.specs.Bytes.{read_regions}
+use Rattle.std.specs.Prelude.{Some, None}
+use Rattle.std.specs.Prelude.{Option as Answer}
+use Rattle.runs.specs.declared.Tables.{Tables}
+use Rattle.runs.specs.Steps.{memory_of, taken_of}
 use Rattle.regions.proofs.Rises.{Canonical}
 use Rattle.regions.proofs.Free.{free_canonical}
 use Rattle.sweep.specs.declared.Sweep.{Sweep}
 use Rattle.sweep.specs.declared.Swept.{Swept}
-use Rattle.sweep.specs.declared.Sweeping.{Sweeping}
-use Rattle.sweep.specs.declared.Sweeping.TheVariants.{Run, Over}
 use Rattle.pages.specs.declared.Found.{Found}
 use Rattle.pages.specs.declared.Stand.{Stand}
-use Rattle.pages.specs.declared.Standing.{Standing}
-use Rattle.pages.specs.declared.Standing.TheVariants.{At, Done}
 use Rattle.pages.specs.Pages.{whole, order_at, piece, pieces_from, page_top, page_top_is}
 use Rattle.sweep.specs.Steps.{runs_in, Ahead, Reached, Advanced}
 use Rattle.pages.specs.Steps.{within, Around, enter, Entered}
@@ -34,14 +33,14 @@ use Rattle.pages.proofs.Listing.{pieces_bare, pieces_skip, pieces_one, pieces_in
 use Rattle.pages.proofs.RunPages.{bare_page, run_below, last_page, in_run}
 
 -- the run at hand gives its pages their orders, and no page between it and the sweep is whole
-pub record Stands (memory : List ℕ) (mcount : ℕ) (taken : List ℕ) (tcount : ℕ) (s : Stand) : Type 0 where
+pub record Stands (tables : Tables) (s : Stand) : Type 0 where
   pub low : s.pages.first ≤ s.page
   pub few : s.page ≤ page_top
   pub top : s.pages.last ≤ page_top
   pub same : (q : ℕ) → s.page ≤ q → q < s.pages.last
-      → order_at (whole (runs_in memory mcount taken tcount)) q ≡ order_at (within s.pages.first s.pages.last) q
-  pub none : (q : ℕ) → max s.page s.pages.last ≤ q → 4096 * q < s.at.low.0 → order_at (whole (runs_in memory mcount taken tcount)) q ≡ none
-  pub ahead : Ahead memory mcount taken tcount s.at
+      → order_at (whole (runs_in tables)) q ≡ order_at (within s.pages.first s.pages.last) q
+  pub none : (q : ℕ) → max s.page s.pages.last ≤ q → 4096 * q < s.at.low.0 → order_at (whole (runs_in tables)) q ≡ none
+  pub ahead : Ahead tables s.at
 
 -- from page p on none begins below d
 skipped : (runs : List Region) (p d : ℕ) → p ≤ d → d ≤ page_top → ((q : ℕ) → p ≤ q → q < d → order_at (whole runs) q ≡ none) → pieces_from runs p ≡ pieces_from runs d
@@ -51,15 +50,15 @@ skipped runs p d l t h =
     let f : p + (d - p) ≡ d = omega arith in
     rw (e, pieces_skip (whole runs) p (d - p) (page_top - d) (λ q a b. rw (h q a (omega arith))), f)
 
-module _ (memory : List ℕ) (mcount : ℕ) (taken : List ℕ) (tcount : ℕ) where
+module _ (tables : Tables) where
   abbrev runs : List Region
-  runs = runs_in memory mcount taken tcount
+  runs = runs_in tables
 
   canonical : Canonical top runs
-  canonical = free_canonical (read_regions mcount memory) (read_regions tcount taken)
+  canonical = free_canonical (memory_of tables) (taken_of tables)
 
-  pub stand_first : (p : ℕ) → p < 4503599627370496 → (a : Sweep) → a.low.0 ≤ 4096 * p → Ahead memory mcount taken tcount a
-      → Stands memory mcount taken tcount (record { pages = record { first = 0; last = 0 }; page = p; at = a })
+  pub stand_first : (p : ℕ) → p < 4503599627370496 → (a : Sweep) → a.low.0 ≤ 4096 * p → Ahead tables a
+      → Stands tables (record { pages = record { first = 0; last = 0 }; page = p; at = a })
   stand_first p h a l f =
       record {
         low = omega arith;
@@ -74,12 +73,12 @@ module _ (memory : List ℕ) (mcount : ℕ) (taken : List ℕ) (tcount : ℕ) wh
 
   -- what is so at the new stand t
   pub record Enters (s t : Stand) : Type 0 where
-    pub stands : Stands memory mcount taken tcount t
+    pub stands : Stands tables t
     pub rest : pieces_from runs s.page ≡ pieces_from runs t.page
     pub up : s.page ≤ t.page
     pub onward : s.at.low.0 < t.at.low.0
 
-  module _ (s : Stand) (h : Stands memory mcount taken tcount s) (over : s.pages.last ≤ s.page) where
+  module _ (s : Stand) (h : Stands tables s) (over : s.pages.last ≤ s.page) where
     -- a page from which on nothing is free, or not below c
     empty : (c q : ℕ) → ((b : ℕ) → s.at.low.0 ≤ b → b < c → at runs b ≡ Absent) → s.page ≤ q → 4096 * q < c → order_at (whole runs) q ≡ none
     empty c q f l m = go (le_or_lt s.at.low.0 (4096 * q))
@@ -92,7 +91,7 @@ module _ (memory : List ℕ) (mcount : ℕ) (taken : List ℕ) (tcount : ℕ) wh
     unfolding pieces_from
     none_left f = pieces_bare (whole runs) s.page (page_top - s.page) (λ q a b. rw (empty (4096 * q + 1) q (λ c x y. f c x) a (omega arith)))
 
-    enters : (x : Swept) → Reached runs s.at.low.0 x → Ahead memory mcount taken tcount x.behind → (f l d : ℕ) → f ≡ (x.low.0 + 4095) / 4096 → l ≡ x.end.0 / 4096
+    enters : (x : Swept) → Reached runs s.at.low.0 x → Ahead tables x.behind → (f l d : ℕ) → f ≡ (x.low.0 + 4095) / 4096 → l ≡ x.end.0 / 4096
         → d ≡ max s.page f → Enters s (record { pages = record { first = f; last = l }; page = d; at = x.behind })
     enters x r g f l d a b c =
         let n = r.run in
@@ -118,20 +117,20 @@ module _ (memory : List ℕ) (mcount : ℕ) (taken : List ℕ) (tcount : ℕ) wh
         behind q u v (inl e) = bare_page runs canonical q (r.after (4096 * q) e v)
         behind q u v (inr e) = last_page runs canonical r.run q (omega arith) e (omega arith)
 
-    module _ (r : Standing) (e : Entered memory mcount taken tcount s r) where
-      pub enter_done : r ≡ Done → pieces_from runs s.page ≡ []
+    module _ (r : Answer Stand) (e : Entered tables s r) where
+      pub enter_done : r ≡ None → pieces_from runs s.page ≡ []
       enter_done f = go e.found e.advanced (sym e.is ∙ f)
         where
-          go : (a : Sweeping) → Advanced memory mcount taken tcount s.at a → enter a s ≡ Done → pieces_from runs s.page ≡ []
-          go Over a g = none_left a
-          go (Run x) a g = absurd (zero_not_one cc)
+          go : (a : Answer Swept) → Advanced tables s.at a → enter a s ≡ None → pieces_from runs s.page ≡ []
+          go None a g = none_left a
+          go (Some x) a g = absurd (zero_not_one cc)
 
-      pub enter_at : (t : Stand) → r ≡ At t → Enters s t
+      pub enter_at : (t : Stand) → r ≡ Some t → Enters s t
       enter_at t f = go e.found e.advanced (sym e.is ∙ f)
         where
-          go : (a : Sweeping) → Advanced memory mcount taken tcount s.at a → enter a s ≡ At t → Enters s t
-          go Over a g = absurd (zero_not_one cc)
-          go (Run x) a g =
+          go : (a : Answer Swept) → Advanced tables s.at a → enter a s ≡ Some t → Enters s t
+          go None a g = absurd (zero_not_one cc)
+          go (Some x) a g =
               let n : ℕ = (x.low.0 + 4095) / 4096 in
               let m : ℕ = x.end.0 / 4096 in
               let u : Stand = record { pages = record { first = (x.low.0 + 4095) / 4096; last = x.end.0 / 4096 }; page = max s.page ((x.low.0 + 4095) / 4096); at = x.behind } in
@@ -140,21 +139,21 @@ module _ (memory : List ℕ) (mcount : ℕ) (taken : List ℕ) (tcount : ℕ) wh
 
   -- ---- on past a piece
 
-  module _ (s : Stand) (h : Stands memory mcount taken tcount s) (high : s.page < s.pages.last) (f : Found) (g : Around s.pages.first s.pages.last s.page f) where
-    ordered : order_at (whole runs) s.page ≡ some f.scale.order
+  module _ (s : Stand) (h : Stands tables s) (high : s.page < s.pages.last) (f : Found) (g : Around s.pages.first s.pages.last s.page f) where
+    ordered : order_at (whole runs) s.page ≡ some f.order
     ordered = h.same s.page (omega arith) high ∙ g.order
 
     pub past_above : s.page < f.past
-    past_above = omega (arith, g.past, g.start, down_near s.page (2 ^ f.scale.order) (pow_pos f.scale.order))
+    past_above = omega (arith, g.past, g.start, down_near s.page (2 ^ f.order) (pow_pos f.order))
 
     pub past_below : f.past ≤ s.pages.last
     past_below =
-        let d : ℕ = down s.page (2 ^ f.scale.order) in
-        let m = (order_largest (within s.pages.first s.pages.last) s.page (some f.scale.order) g.order).0 in
-        let q = both (leb s.pages.first d) (leb (d + 2 ^ f.scale.order) s.pages.last) m in
-        omega (arith, g.past, g.start, leb-true (d + 2 ^ f.scale.order) s.pages.last q.1)
+        let d : ℕ = down s.page (2 ^ f.order) in
+        let m = (order_largest (within s.pages.first s.pages.last) s.page (some f.order) g.order).0 in
+        let q = both (leb s.pages.first d) (leb (d + 2 ^ f.order) s.pages.last) m in
+        omega (arith, g.past, g.start, leb-true (d + 2 ^ f.order) s.pages.last q.1)
 
-    pub stand_past : Stands memory mcount taken tcount (record { pages = s.pages; page = f.past; at = s.at })
+    pub stand_past : Stands tables (record { pages = s.pages; page = f.past; at = s.at })
     stand_past =
         let i = past_above in
         let j = past_below in
@@ -175,14 +174,14 @@ module _ (memory : List ℕ) (mcount : ℕ) (taken : List ℕ) (tcount : ℕ) wh
         let j = past_below in
         let e : page_top - s.page ≡ (f.past - s.page) + (page_top - f.past) = omega (arith, h.top) in
         let k : s.page + (f.past - s.page) ≡ f.past = omega arith in
-        rw (e, pieces_inside (whole runs) s.page f.scale.order (f.past - s.page) (page_top - f.past) ordered (omega (arith, g.start)) (omega (arith, g.past, g.start)), k)
+        rw (e, pieces_inside (whole runs) s.page f.order (f.past - s.page) (page_top - f.past) ordered (omega (arith, g.start)) (omega (arith, g.past, g.start)), k)
 
     -- or a piece begins there
-    pub step_piece : s.page ≤ f.start → pieces_from runs s.page ≡ piece s.page f.scale.order ∷ pieces_from runs f.past
+    pub step_piece : s.page ≤ f.start → pieces_from runs s.page ≡ piece s.page f.order ∷ pieces_from runs f.past
     unfolding pieces_from
     step_piece l =
-        let d : down s.page (2 ^ f.scale.order) ≡ s.page = omega (arith, g.start, down_le s.page (2 ^ f.scale.order) (pow_pos f.scale.order)) in
-        let k : s.page + 2 ^ f.scale.order ≡ f.past = omega (arith, g.past, g.start) in
+        let d : down s.page (2 ^ f.order) ≡ s.page = omega (arith, g.start, down_le s.page (2 ^ f.order) (pow_pos f.order)) in
+        let k : s.page + 2 ^ f.order ≡ f.past = omega (arith, g.past, g.start) in
         let j = past_below in
-        let e : page_top - s.page ≡ 2 ^ f.scale.order + (page_top - f.past) = omega (arith, h.top) in
-        rw (e, pieces_one (whole runs) s.page f.scale.order (page_top - f.past) ordered (down_odd s.page (2 ^ f.scale.order) d), k)
+        let e : page_top - s.page ≡ 2 ^ f.order + (page_top - f.past) = omega (arith, h.top) in
+        rw (e, pieces_one (whole runs) s.page f.order (page_top - f.past) ordered (down_odd s.page (2 ^ f.order) d), k)

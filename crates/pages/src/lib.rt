@@ -1,21 +1,25 @@
 // The free pages of a block, cut into pieces and handed over.
 #![tactic(auto)]
 
-ghost use Rattle.std.specs.Prelude.{◌≡◌, true, ◌&&◌, ◌+◌, ◌/◌, ◌<◌, ◌≤◌, leb, length};
+ghost use Rattle.std.specs.Prelude.{◌≡◌, ◌+◌, ◌/◌, ◌^◌, ◌<◌, ◌≤◌, length};
 ghost use Rattle.std.proofs.lemmas.List.Edits.{sets};
-ghost use Rattle.address.specs.Numbers.{down, power_of_two};
+ghost use Rattle.address.specs.Numbers.{down};
+ghost use Rattle.refusals.specs.Numbers.{answered};
 ghost use Rattle.block.specs.Block.{current};
 ghost use Rattle.search.specs.Answers.{answer, with_buffer};
 ghost use Rattle.pages.specs.Pages.{piece_bytes, pieces_from, hand_over};
-ghost use Rattle.sweep.specs.Steps.{Tables, runs_in, Ahead};
-ghost use Rattle.pages.specs.Steps.{Sized, NoneAbove, Around, Entered, HandedOver};
+ghost use Rattle.runs.specs.Steps.{GoodTables};
+ghost use Rattle.sweep.specs.Steps.{runs_in, Ahead};
+ghost use Rattle.pages.specs.Steps.{within, NoneAbove, Around, Entered, HandedOver};
 
 use address::{Address, round_down};
 use block::{block_good, current_layout};
+use refusals::Refusal;
 use regions::bytes::{put_u32, put_u64};
+use runs::Tables;
 use search::find::{clear_slip, put_slip};
-use seek::parts_of;
-use sweep::{Sweep, Sweeping, advance, begin};
+use seek::tables_of;
+use sweep::{Sweep, advance, begin};
 
 // One more than the number of the last page of 4096 bytes.
 const PAGES: u64 = 4503599627370496;
@@ -28,6 +32,7 @@ pub struct Piece {
 }
 
 // What a call tells: how many pieces were written, and the page where the next one begins, 2^52 if none is left.
+// Both are C's numbers, as the slip has them, so no Option for the page.
 #[derive(Clone, Copy)]
 struct Told {
     count: u64,
@@ -41,13 +46,6 @@ struct Span {
     last: u64,
 }
 
-// An order, and how many pages a piece of it has.
-#[derive(Clone, Copy)]
-struct Scale {
-    order: u32,
-    size: u64,
-}
-
 // Where the walk stands: at `page`, the run at hand having these whole pages, and the sweep being behind that run.
 #[derive(Clone, Copy)]
 struct Stand {
@@ -56,76 +54,73 @@ struct Stand {
     at: Sweep,
 }
 
-// On in a run, or no run is left.
-#[derive(Clone, Copy)]
-enum Standing {
-    At(Stand),
-    Done,
-}
-
 // The piece that a page lies in: its first page, the first past it, and its order.
 #[derive(Clone, Copy)]
 struct Found {
     start: u64,
     past: u64,
-    scale: Scale,
+    order: u32,
 }
 
-// Whether the piece of `size` pages that `page` lies in lies between `first` and `last`.
-fn fits(first: u64, last: u64, page: u64, size: u64) -> bool
-    requires { (page < last) × (power_of_two size ≡ true) }
-    ensures { result ≡ leb first (down page size) && leb (down page size + size) last }
+// How many pages a piece of this order has.
+fn pages_of(order: u32) -> u64
+    requires { order ≤ 10 }
+    ensures { result ≡ 2 ^ order }
 {
-    let start = round_down(page, size);
-    if start < first {
-        return false;
-    }
-    size <= last - start
+    1 << order
 }
 
-// From the order `s` up, as long as the next larger piece fits.
-fn raise(first: u64, last: u64, page: u64, s: Scale) -> Scale
-    requires { (page < last) × Sized s }
-    ensures { Sized result × NoneAbove first last page result.order }
-{
-    let mut order = s.order;
-    let mut size = s.size;
-    while order < 10 {
-        let larger = 2 * size;
-        if !fits(first, last, page, larger) {
-            return Scale { order, size };
+impl Span {
+    // Those from the address `low` up to `end`.
+    fn of(low: Address, end: Address) -> Span
+        ensures { (result.first ≡ (low.0 + 4095) / 4096) × (result.last ≡ end.0 / 4096) }
+    {
+        Span {
+            first: low.0.div_ceil(4096),
+            last: end.0 / 4096,
         }
-        order += 1;
-        size = larger;
     }
-    Scale { order, size }
-}
 
-// The piece that `page` lies in, among the pages of one run. Where a larger piece fits, so do all smaller ones, so that the order is looked for from `near` up, and from
-// there down.
-fn piece_at(first: u64, last: u64, page: u64, near: Scale) -> Found
-    requires { ((first ≤ page) × (page < last)) × Sized near }
-    ensures { Around first last page result }
-{
-    let high = raise(first, last, page, near);
-    let mut order = high.order;
-    let mut size = high.size;
-    while 0 < order {
-        if fits(first, last, page, size) {
-            let start = round_down(page, size);
-            let past = start + size;
-            let scale = Scale { order, size };
-            return Found { start, past, scale };
-        }
-        order -= 1;
-        size = size / 2;
+    // Whether the piece of this order that `page` lies in lies among them.
+    fn holds(self, page: u64, order: u32) -> bool
+        requires { (page < self.last) × (order ≤ 10) }
+        ensures { result ≡ within self.first self.last order (down page (2 ^ order)) }
+    {
+        let size = pages_of(order);
+        let start = round_down(page, size);
+        self.first <= start && size <= self.last - start
     }
-    let past = page + 1;
-    let scale = Scale { order, size };
-    Found {
-        start: page,
-        past,
-        scale,
+
+    // From the order `near` up, as long as the next larger piece fits.
+    // A `while`, here and below: what is asked for is where it stops.
+    fn raise(self, page: u64, near: u32) -> u32
+        requires { (page < self.last) × (near ≤ 10) }
+        ensures { (result ≤ 10) × NoneAbove self.first self.last page result }
+    {
+        let mut order = near;
+        while order < 10 && self.holds(page, order + 1) {
+            order += 1;
+        }
+        order
+    }
+
+    // The piece that `page`, one of them, lies in. Where a larger piece fits, so do all smaller ones, so that the order is looked for from `near` up, and
+    // from there down.
+    fn piece_at(self, page: u64, near: u32) -> Found
+        requires { ((self.first ≤ page) × (page < self.last)) × (near ≤ 10) }
+        ensures { Around self.first self.last page result }
+    {
+        let mut order = self.raise(page, near);
+        while 0 < order && !self.holds(page, order) {
+            order -= 1;
+        }
+        let size = pages_of(order);
+        let start = round_down(page, size);
+        Found {
+            start,
+            past: start + size,
+            order,
+        }
     }
 }
 
@@ -138,52 +133,25 @@ fn put_piece(s: &mut [u8], at: usize, p: Piece)
     put_u32(s, at + 8, p.order);
 }
 
-// The whole pages from the address `low` up to `end`.
-fn span_of(low: Address, end: Address) -> Span
-    ensures { (result.first ≡ (low.0 + 4095) / 4096) × (result.last ≡ end.0 / 4096) }
+// On to the next run, if there is one: at its first whole page, or where the walk stands if that is above.
+fn next_run(t: Tables<'_>, s: Stand) -> Option<Stand>
+    requires { GoodTables t × Ahead t s.at }
+    ensures { Entered t.entry s result }
 {
-    let a = low.0;
-    let e = end.0;
-    let over = a % 4096 + 4095;
-    let first = a / 4096 + over / 4096;
-    Span {
-        first,
-        last: e / 4096,
-    }
+    let run = advance(t, s.at)?;
+    let pages = Span::of(run.low, run.end);
+    Some(Stand {
+        pages,
+        page: s.page.max(pages.first),
+        at: run.behind,
+    })
 }
 
-// On to the next run: at its first whole page, or where the walk stands if that is above.
-fn next_run(memory: &[u8], mcount: usize, taken: &[u8], tcount: usize, s: Stand) -> Standing
-    requires { Tables memory.now mcount taken.now tcount × Ahead memory.now mcount taken.now tcount s.at }
-    ensures { Entered memory.now mcount taken.now tcount s result }
-{
-    let at = s.at;
-    let Sweeping::Run(r) = advance(memory, mcount, taken, tcount, at) else {
-        return Standing::Done;
-    };
-    let low = r.low;
-    let end = r.end;
-    let at = r.behind;
-    let pages = span_of(low, end);
-    let page = s.page;
-    if page < pages.first {
-        let page = pages.first;
-        return Standing::At(Stand { pages, page, at });
-    }
-    Standing::At(Stand { pages, page, at })
-}
-
-// Writes the pieces of two tables that begin at or above `page`, as many as fit. A turn goes on to the next run, or past one piece of the run at hand.
-fn walk(
-    memory: &[u8],
-    mcount: usize,
-    taken: &[u8],
-    tcount: usize,
-    page: u64,
-    buffer: &mut [u8],
-) -> Told
-    requires { Tables memory.now mcount taken.now tcount }
-    ensures { HandedOver (pieces_from (runs_in memory.now mcount taken.now tcount) page) buffer.old result.count result.next buffer.new }
+// Writes the pieces of two tables that begin at or above `page`, as many as fit. A turn goes on to the next run, or past one piece of the run at hand: a
+// loop, since a `for` goes on by one thing alone.
+fn walk(t: Tables<'_>, page: u64, buffer: &mut [u8]) -> Told
+    requires { GoodTables t }
+    ensures { HandedOver (pieces_from (runs_in t.entry) page) buffer.old result.count result.next buffer.new }
 {
     if PAGES <= page {
         return Told {
@@ -191,8 +159,7 @@ fn walk(
             next: PAGES,
         };
     }
-    let start = 4096 * page;
-    let from = begin(memory, mcount, taken, tcount, Address(start));
+    let from = begin(t, Address(4096 * page));
     let room = buffer.len() / 12;
     let mut count: usize = 0;
     let mut at = Stand {
@@ -201,13 +168,11 @@ fn walk(
         at: from,
     };
     let mut order: u32 = 10;
-    let mut size: u64 = 1024;
     loop {
         let page = at.page;
-        let first = at.pages.first;
-        let last = at.pages.last;
-        if last <= page {
-            let Standing::At(s) = next_run(memory, mcount, taken, tcount, at) else {
+        let pages = at.pages;
+        if pages.last <= page {
+            let Some(s) = next_run(t, at) else {
                 return Told {
                     count: count as u64,
                     next: PAGES,
@@ -216,9 +181,8 @@ fn walk(
             at = s;
             continue;
         }
-        let f = piece_at(first, last, page, Scale { order, size });
-        order = f.scale.order;
-        size = f.scale.size;
+        let f = pages.piece_at(page, order);
+        order = f.order;
         at.page = f.past;
         if f.start < page {
             continue;
@@ -235,28 +199,17 @@ fn walk(
 }
 
 // The pieces from page `from` on, in a lent buffer; how many and the next piece's page in a lent slip of 16 bytes. The block stays.
-pub fn hand_over(block: &[u8], from: u64, buffer: &mut [u8], slip: &mut [u8]) -> u32
-    ensures { with_buffer buffer.new (answer result block.now slip.new) ≡ hand_over current from block.now buffer.old slip.old }
+pub fn hand_over(block: &[u8], from: u64, buffer: &mut [u8], slip: &mut [u8]) -> Result<(), Refusal>
+    ensures { with_buffer buffer.new (answer (answered result) block.now slip.new) ≡ hand_over current from block.now buffer.old slip.old }
 {
     if slip.len() != 16 {
-        return 8;
+        return Err(Refusal::Slip);
     }
-    let layout = current_layout();
-    if !block_good(block, layout) {
+    if !block_good(block, current_layout()) {
         clear_slip(slip);
-        return 1;
+        return Err(Refusal::Block);
     }
-    let p = parts_of(block);
-    let middle = p.middle;
-    let end = p.end;
-    let t = walk(
-        &block[80..middle],
-        p.memory,
-        &block[middle..end],
-        p.taken,
-        from,
-        buffer,
-    );
+    let t = walk(tables_of(block), from, buffer);
     put_slip(slip, t.count, t.next);
-    0
+    Ok(())
 }

@@ -3,6 +3,9 @@ use Prim.Native.Nat.{ℕ, ◌+◌}
 use mathlib.Core.Path.{◌≡◌, refl}
 use mathlib.Core.List.{List, [], ◌∷◌, ◌++◌}
 use lib.ListN.{length, take, drop}
+use Rattle.std.proofs.Common.{Option, Some, None, Result, Ok, Err}
+use Rattle.refusals.specs.declared.Refusal.{Refusal}
+use Rattle.refusals.specs.declared.Refusal.TheVariants.{Tree}
 use Rattle.tree.specs.Words.{big}
 use Rattle.tree.specs.Tokens.{to_zero, begin_of, property_of, plain_of, token_of, token, size, tokens_up_to}
 use Rattle.tree.specs.Form.{follows, named, formed}
@@ -11,9 +14,9 @@ use Rattle.tree.specs.Places.{located}
 use Rattle.tree.specs.Header.{pairs, ended, header, list, parts, form}
 use Rattle.lookup.specs.Values.{same, steps, path}
 use Rattle.paths.specs.declared.pairs.Holder.{Holder}
-use Rattle.paths.specs.declared.pairs.Holder.TheVariants.{Service, Board, Neither, Malformed}
+use Rattle.paths.specs.declared.pairs.Holder.TheVariants.{Service, Board}
 use Rattle.paths.specs.declared.pairs.Place.{Place}
-use Rattle.paths.specs.Lookup.{listing, first_of, whereabouts, nowhere, pair_place}
+use Rattle.paths.specs.Lookup.{listing, first_of, whereabouts, pair_place}
 
 abbrev join : List (List ℕ) → List ℕ
 join [] = []
@@ -63,8 +66,8 @@ other t = take 23 t ++ (16 ∷ drop 24 t)
 
 -- ---- what is found
 
-abbrev at : Holder → ℕ → ℕ → Place
-at h offset n = record { holder = h; offset = offset; length = n }
+abbrev at : Holder → ℕ → ℕ → Result (Option Place) Refusal
+at h offset n = Ok (Some (record { holder = h; offset = offset; length = n }))
 
 -- at / the root's; at /a/b that of the node of this name, which comes first, and its value is empty; at /c the service tree's, also where it is empty
 pub found : (pair_place service board (47 ∷ []) x ≡ at Board 76 2) × (pair_place service board (47 ∷ 97 ∷ 47 ∷ 98 ∷ []) x ≡ at Board 100 0)
@@ -73,12 +76,12 @@ unfolding big to_zero begin_of property_of plain_of token_of token size tokens_u
 found = (refl, refl, refl, refl)
 
 -- at /a, on the way to another; at c, and at no path, that do not begin with a /; at /c/, which would be a nameless node in c
-pub not_found : (pair_place service board (47 ∷ 97 ∷ []) x ≡ nowhere Neither) × (pair_place service board (99 ∷ []) y ≡ nowhere Neither)
-    × (pair_place service board [] x ≡ nowhere Neither) × (pair_place service board (47 ∷ 99 ∷ 47 ∷ []) y ≡ nowhere Neither)
+pub not_found : (pair_place service board (47 ∷ 97 ∷ []) x ≡ Ok None) × (pair_place service board (99 ∷ []) y ≡ Ok None)
+    × (pair_place service board [] x ≡ Ok None) × (pair_place service board (47 ∷ 99 ∷ 47 ∷ []) y ≡ Ok None)
 unfolding big to_zero begin_of property_of plain_of token_of token size tokens_up_to follows named formed contents located pairs ended header list parts form same steps path listing first_of whereabouts pair_place
 not_found = (refl, refl, refl, refl)
 
 -- where either tree's form fails
-pub malformed : (pair_place (other service) board (47 ∷ []) x ≡ nowhere Malformed) × (pair_place service (other board) (47 ∷ 99 ∷ []) y ≡ nowhere Malformed)
+pub malformed : (pair_place (other service) board (47 ∷ []) x ≡ Err Tree) × (pair_place service (other board) (47 ∷ 99 ∷ []) y ≡ Err Tree)
 unfolding big to_zero begin_of property_of plain_of token_of token size tokens_up_to follows named formed contents located pairs ended header list parts form same steps path listing first_of whereabouts pair_place
 malformed = (refl, refl)

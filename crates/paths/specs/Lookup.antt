@@ -1,5 +1,8 @@
 -- Properties by path and name (E9): in a tree, and in a service tree before a board's. Assumes nothing.
-use Rattle.std.specs.Prelude.{ℕ, ◌+◌, cond, ◌&&◌, List, [], ◌∷◌, ◌++◌, drop, take, get_or}
+use Rattle.std.specs.Prelude.{ℕ, ◌+◌, cond, ◌&&◌, List, [], ◌∷◌, ◌++◌, Option, Some, None, Result, Ok, Err, drop, take, get_or}
+use Rattle.refusals.specs.Numbers.{number}
+use Rattle.refusals.specs.declared.Refusal.{Refusal}
+use Rattle.refusals.specs.declared.Refusal.TheVariants.{Tree}
 use Rattle.tree.specs.Tokens.{tokens}
 use Rattle.tree.specs.Form.{named}
 use Rattle.tree.specs.Content.{Content, nothing, property, node, contents, first, in_root}
@@ -7,7 +10,7 @@ use Rattle.tree.specs.Places.{located}
 use Rattle.tree.specs.Header.{field, form, root, strings, structure}
 use Rattle.lookup.specs.Values.{same, name_at, path, Value, absent, present}
 use Rattle.paths.specs.declared.pairs.Holder.{Holder}
-use Rattle.paths.specs.declared.pairs.Holder.TheVariants.{Service, Board, Neither, Malformed}
+use Rattle.paths.specs.declared.pairs.Holder.TheVariants.{Service, Board}
 use Rattle.paths.specs.declared.pairs.Place.{Place}
 
 -- ---- a tree
@@ -48,34 +51,39 @@ whereabouts tree p name = first_of p name (listing (strings tree) [] (root_place
 
 -- ---- two trees
 
-abbrev pub nowhere : Holder → Place
-nowhere h = record { holder = h; offset = 0; length = 0 }
-
 -- where a tree has the value: the offset is the structure block's and the place in it
-abbrev pub place_in : List ℕ → Holder → Value → Place → Place
+abbrev pub place_in : List ℕ → Holder → Value → Option Place → Option Place
 place_in tree h absent other = other
-place_in tree h (present v) other = record { holder = h; offset = field 2 tree + get_or v 0 0; length = get_or v 1 0 }
+place_in tree h (present v) other = Some (record { holder = h; offset = field 2 tree + get_or v 0 0; length = get_or v 1 0 })
 
--- the service tree's if that has it, else the board's
-unfoldable pub pair_place : List ℕ → List ℕ → List ℕ → List ℕ → Place
+-- the service tree's if that has it, else the board's; refused where a tree's form fails
+unfoldable pub pair_place : List ℕ → List ℕ → List ℕ → List ℕ → Result (Option Place) Refusal
 pair_place service board p name =
     cond (form service && form board)
-    (place_in service Service (whereabouts service p name) (place_in board Board (whereabouts board p name) (nowhere Neither))) (nowhere Malformed)
+    (Ok (place_in service Service (whereabouts service p name) (place_in board Board (whereabouts board p name) None))) (Err Tree)
 
--- the tree that has it
+-- which tree has it
+abbrev pub holder_of : Result (Option Place) Refusal → Result (Option Holder) Refusal
+holder_of (Ok (Some r)) = Ok (Some r.holder)
+holder_of (Ok None) = Ok None
+holder_of (Err e) = Err e
+
 abbrev pub tree_by : Holder → List ℕ → List ℕ → List ℕ
 tree_by Service service board = service
 tree_by Board service board = board
-tree_by Neither service board = []
-tree_by Malformed service board = []
 
 -- the value as a part of that tree
-abbrev pub part_of : List ℕ → List ℕ → Place → List ℕ
-part_of service board r = take r.length (drop r.offset (tree_by r.holder service board))
+abbrev pub part_of : List ℕ → List ℕ → Result (Option Place) Refusal → List ℕ
+part_of service board (Ok (Some r)) = take r.length (drop r.offset (tree_by r.holder service board))
+part_of service board (Ok None) = []
+part_of service board (Err e) = []
 
 -- the numbers that say which; 11 where a tree's form fails
-abbrev pub number_of : Holder → ℕ
-number_of Neither = 0
-number_of Service = 1
-number_of Board = 2
-number_of Malformed = 11
+abbrev pub number_of_holder : Holder → ℕ
+number_of_holder Service = 1
+number_of_holder Board = 2
+
+abbrev pub number_of : Result (Option Holder) Refusal → ℕ
+number_of (Ok (Some h)) = number_of_holder h
+number_of (Ok None) = 0
+number_of (Err e) = number e

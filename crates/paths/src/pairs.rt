@@ -1,127 +1,117 @@
 // A service tree before a board's: which has a property, and its value as a part of that tree.
-ghost use Rattle.std.specs.Prelude.{◌≡◌, true, ◌&&◌};
-ghost use Rattle.tree.specs.Header.{form, structure as structure_of};
-ghost use Rattle.lookup.specs.Steps.{PlacedIn};
-ghost use Rattle.paths.specs.Lookup.{whereabouts, pair_place, part_of, number_of};
+ghost use Rattle.std.specs.Prelude.{◌≡◌, true, ◌&&◌, None};
+ghost use Rattle.tree.specs.Header.{form};
+ghost use Rattle.paths.specs.Lookup.{whereabouts, place_in, pair_place, holder_of, tree_by, part_of, number_of_holder, number_of};
 
 use super::nodes::find_path;
-use lookup::Found;
-use tree::header::{has_form, strings, structure};
-use tree::reader::root_of;
+use refusals::Refusal;
+use tree::header::{has_form, tree_of};
 use tree::words::word_at;
 
-// The number for a tree that cannot be read.
-pub const BAD_TREE: u32 = 11;
-
-// Which of two trees has a property; malformed where one of them has not the form.
-#[derive(Drop)]
+// Which of two trees has a property.
+#[derive(Clone, Copy)]
 pub enum Holder {
     Service,
     Board,
-    Neither,
-    Malformed,
 }
 
-// Which tree has a property, and where its value stands in that tree: zero and zero where none has it.
-#[derive(Drop)]
+impl From<Holder> for u32 {
+    ghost from_gives = { λ h n. n ≡ number_of_holder h };
+
+    fn from(holder: Holder) -> u32 {
+        match holder {
+            Holder::Service => 1,
+            Holder::Board => 2,
+        }
+    }
+}
+
+// Which tree has a property, and where its value stands in that tree.
+#[derive(Clone, Copy)]
 pub struct Place {
     pub holder: Holder,
     pub offset: usize,
     pub length: usize,
 }
 
-// Where the first property of a name at a path stands in the structure block of a tree.
-fn find_in(tree: &[u8], path: &[u8], name: &[u8]) -> Found
+// The place of the first property of a name at a path in a tree that has the form, for the holder that this tree is.
+fn find_in(holder: Holder, tree: &[u8], path: &[u8], name: &[u8]) -> Option<Place>
     requires { form tree.now ≡ true }
-    ensures { PlacedIn (structure_of tree.now) (whereabouts tree.now path.now name.now) result }
+    ensures { result ≡ place_in tree.now holder (whereabouts tree.now path.now name.now) None }
 {
-    let s = structure(tree);
-    let strings = strings(tree);
-    find_path(strings, root_of(strings, s), s, path, name)
+    let found = find_path(&tree_of(tree), path, name)?;
+    Some(Place {
+        holder,
+        offset: word_at(tree, 8) as usize + found.at,
+        length: found.len,
+    })
 }
 
 // Whether two trees have the form.
 pub fn both_formed(service: &[u8], board: &[u8]) -> bool
     ensures { result ≡ (form service.now && form board.now) }
 {
-    if has_form(service) {
-        return has_form(board);
-    }
-    false
+    has_form(service) && has_form(board)
 }
 
-// Where a property stands: in the service tree if that has it, else in the board's.
-pub fn find_pair(service: &[u8], board: &[u8], path: &[u8], name: &[u8]) -> Place
+// Where a property stands: in the service tree if that has it, else in the board's; nowhere if neither has it. Refused where a tree has not the form.
+// The four slices here and below are those that C lends `memblock_lookup`.
+#[tactic(auto, unfolding(crate::specs::Lookup::pair_place))]
+pub fn find_pair(
+    service: &[u8],
+    board: &[u8],
+    path: &[u8],
+    name: &[u8],
+) -> Result<Option<Place>, Refusal>
     ensures { result ≡ pair_place service.now board.now path.now name.now }
 {
     if !both_formed(service, board) {
-        return Place {
-            holder: Holder::Malformed,
-            offset: 0,
-            length: 0,
-        };
+        return Err(Refusal::Tree);
     }
-    let corrected = find_in(service, path, name);
-    if let Found::At(a, n) = corrected {
-        return Place {
-            holder: Holder::Service,
-            offset: word_at(service, 8) as usize + a,
-            length: n,
-        };
-    }
-    let own = find_in(board, path, name);
-    if let Found::At(a, n) = own {
-        return Place {
-            holder: Holder::Board,
-            offset: word_at(board, 8) as usize + a,
-            length: n,
-        };
-    }
-    Place {
-        holder: Holder::Neither,
-        offset: 0,
-        length: 0,
-    }
+    let corrected = find_in(Holder::Service, service, path, name);
+    Ok(corrected.or_else(|| find_in(Holder::Board, board, path, name)))
 }
 
 // Which of two trees has a property.
-pub fn which_holds(service: &[u8], board: &[u8], path: &[u8], name: &[u8]) -> Holder
-    ensures { result ≡ (pair_place service.now board.now path.now name.now).holder }
+pub fn which_holds(
+    service: &[u8],
+    board: &[u8],
+    path: &[u8],
+    name: &[u8],
+) -> Result<Option<Holder>, Refusal>
+    ensures { result ≡ holder_of (pair_place service.now board.now path.now name.now) }
 {
-    let place = find_pair(service, board, path, name);
-    place.holder
+    Ok(find_pair(service, board, path, name)?.map(|place| place.holder))
+}
+
+// The tree that a holder is.
+fn tree_by<'a>(holder: Holder, service: &'a [u8], board: &'a [u8]) -> &'a [u8]
+    ensures { result.now ≡ tree_by holder service.now board.now }
+{
+    match holder {
+        Holder::Service => service,
+        Holder::Board => board,
+    }
 }
 
 // The value of a property as a part of the tree that has it, the service tree first; an empty part where none has it.
 pub fn lookup<'a>(service: &'a [u8], board: &'a [u8], path: &[u8], name: &[u8]) -> &'a [u8]
     ensures { result.now ≡ part_of service.now board.now (pair_place service.now board.now path.now name.now) }
 {
-    let place = find_pair(service, board, path, name);
-    let holder = place.holder;
-    let at = place.offset;
-    let n = place.length;
-    match holder {
-        Holder::Service => {
-            let end = at + n;
-            &service[at..end]
-        }
-        Holder::Board => {
-            let end = at + n;
-            &board[at..end]
-        }
-        Holder::Neither => &board[0..0],
-        Holder::Malformed => &board[0..0],
-    }
+    let Ok(Some(place)) = find_pair(service, board, path, name) else {
+        return &[];
+    };
+    let tree = tree_by(place.holder, service, board);
+    &tree[place.offset..place.offset + place.length]
 }
 
-// The number that says which.
-pub fn holder_number(holder: Holder) -> u32
+// The number that says which: 0 for neither, or the refusal's.
+pub fn holder_number(holder: Result<Option<Holder>, Refusal>) -> u32
     ensures { result ≡ number_of holder }
 {
     match holder {
-        Holder::Service => 1,
-        Holder::Board => 2,
-        Holder::Neither => 0,
-        Holder::Malformed => BAD_TREE,
+        Ok(Some(holder)) => holder.into(),
+        Ok(None) => 0,
+        Err(refusal) => refusal.into(),
     }
 }

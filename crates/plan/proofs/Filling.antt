@@ -1,14 +1,13 @@
 -- The ranges filled in turn into a scratch table come to what the definition says of all of them at once. Assumes nothing.
-use Prim.Native.Nat.{ℕ, zero, suc, ◌+◌, ◌*◌, ◌-◌, ◌/◌, ◌≤◌, ◌<◌}
-use native.Mathlib.Nat.{not-suc-le-zero, le_of_suc-le-suc}
+use Prim.Native.Nat.{ℕ, suc, ◌+◌, ◌*◌, ◌-◌, ◌/◌, ◌≤◌, ◌<◌}
 use native.Mathlib.Numerals.{add-one}
 use mathlib.Core.Path.{◌≡◌, refl, sym, ap, ◌∙◌}
 use mathlib.Core.Bool.{Bool, true, false, cond, ◌||◌}
-use mathlib.Core.List.{List, [], ◌∷◌, ◌++◌, append-nil}
+use mathlib.Core.List.{List, [], ◌++◌, append-nil}
 use native.Mathlib.Omega.{arith}
 use lib.Dec.{leb, ltb}
 use lib.ListN.{length, take, drop, get_or, replicate, drop_of_length-le}
-use lib.Seq.{length-take-le, take-length, get_or-take, take_at}
+use lib.Seq.{take-length, take_at}
 use borrow.Author.Tests.{le-leb, lt-leb, leb-true, ltb-true}
 use Rattle.address.proofs.Tests.{both, and}
 use Rattle.regions.specs.declared.Run.{Run}
@@ -31,18 +30,19 @@ use Rattle.regions.proofs.Records.{read_regions_bytes, read_regions_length, regi
 use Rattle.records.specs.declared.table.Tally.{Tally}
 use Rattle.records.specs.Totals.{tally}
 use Rattle.records.specs.Steps.{Whole}
+use Rattle.std.proofs.lemmas.List.{get_or_default}
+use Rattle.std.proofs.lemmas.List.Folds.{list_any_more}
 use Rattle.records.proofs.Tables.{good_table_lem}
 use Rattle.records.proofs.Zeros.{drop_zeros}
 use Rattle.change.specs.Steps.{Stored, stored_answer, stored_bytes, Vacant}
-use Rattle.change.specs.declared.inplace.Changed.{Changed}
-use Rattle.change.specs.declared.inplace.Changed.TheVariants.{To, NoRoom}
+use Rattle.std.proofs.Common.{Result, Ok, Err, IsOk}
+use Rattle.refusals.specs.declared.Refusal.{Refusal}
+use Rattle.refusals.specs.declared.Refusal.TheVariants.{Full}
 use Rattle.change.proofs.Filling.{filled_by_one}
 use Rattle.block.proofs.Blocks.{table_length, table_longer, table_tail}
 use Rattle.range.specs.Outcomes.{tag}
-use Rattle.plan.specs.declared.Seen.{Seen}
 use Rattle.plan.specs.Plan.{lies, any, with_ranges}
-use Rattle.plan.specs.Steps.{ranges_of, Holding, Apart, AllApart, Spells}
-use Rattle.plan.proofs.Any.{any_more}
+use Rattle.plan.specs.Steps.{Apart, AllApart, Spells}
 
 -- ---- a scratch table
 
@@ -71,12 +71,6 @@ module _ (t : List ℕ) (y : Tally) (xs : List Region) (s : Spells t y xs) where
 
 -- ---- one range more
 
--- within a list the default does not matter
-within : {A : Type 0} (c d : A) (xs : List A) (i : ℕ) → i < length xs → get_or xs i c ≡ get_or xs i d
-within c d [] i l = absurd (not-suc-le-zero l)
-within c d (x ∷ xs) zero l = refl
-within c d (x ∷ xs) (suc i) l = within c d xs i (le_of_suc-le-suc l)
-
 module _ (xs : List Region) (rs : List Run) where
   -- the list after the first i ranges
   abbrev pub list_at : ℕ → List Region
@@ -84,7 +78,6 @@ module _ (xs : List Region) (rs : List Run) where
 
   module _ (g : good_list Taken xs ≡ true) where
     pub list_first : list_at 0 ≡ xs
-    unfolding any
     list_first = round_trip top xs (good_rises Taken xs g)
 
     pub list_good : (i : ℕ) → good_list Taken (list_at i) ≡ true
@@ -112,7 +105,7 @@ module _ (xs : List Region) (rs : List Run) where
       where
         same : (a : ℕ) → a < top → cond (lies a ranged) (change (Fill (tag 0 0)) (at (list_at i) a)) (at (list_at i) a) ≡ with_ranges (take (suc i) rs) (at xs) a
         same a h =
-            rw (any_more (lies a) d i rs l, at_shortest (with_ranges (take i rs) (at xs)) top a h)
+            rw (← add-one i, list_any_more (lies a) rs i d l, at_shortest (with_ranges (take i rs) (at xs)) top a h)
             (go (any (lies a) (take i rs)) (lies a ranged) (λ e. let p = both (leb ranged.low.0 a) (ltb a ranged.end.0) e in w.vacant a (leb-true ranged.low.0 a p.0) (ltb-true a ranged.end.0 p.1)))
           where
             go : (b c : Bool) → (c ≡ true → cond b (Present (tag 0 0)) (at xs a) ≡ Absent)
@@ -128,109 +121,106 @@ module _ (xs : List Region) (rs : List Run) where
 -- ---- the loop
 
 -- after i ranges
-pub record Upto (t₀ : List ℕ) (y₀ : Tally) (s : Seen) (t : List ℕ) (y : Tally) (i : ℕ) : Type 0 where
-  pub spells : Spells t y (list_at (read_regions y₀.count t₀) (ranges_of s) i)
-  pub longer : length (list_at (read_regions y₀.count t₀) (ranges_of s) i) ≤ y₀.count + i
+pub record Upto (t₀ : List ℕ) (y₀ : Tally) (rs : List Run) (t : List ℕ) (y : Tally) (i : ℕ) : Type 0 where
+  pub spells : Spells t y (list_at (read_regions y₀.count t₀) rs i)
+  pub longer : length (list_at (read_regions y₀.count t₀) rs i) ≤ y₀.count + i
 
-module _ (t₀ : List ℕ) (y₀ : Tally) (s : Seen) (h : Holding s 0) (u : Spells t₀ y₀ (read_regions y₀.count t₀)) (w : AllApart (read_regions y₀.count t₀) (ranges_of s)) where
+module _ (t₀ : List ℕ) (y₀ : Tally) (rs : List Run) (u : Spells t₀ y₀ (read_regions y₀.count t₀)) (w : AllApart (read_regions y₀.count t₀) rs) where
   abbrev xs : List Region
   xs = read_regions y₀.count t₀
 
-  length_is : length (ranges_of s) ≡ s.count
-  length_is = length-take-le s.count s.ranges (omega (arith, h.whole, h.room))
-
-  pub upto_start : Upto t₀ y₀ s t₀ y₀ 0
+  pub upto_start : Upto t₀ y₀ rs t₀ y₀ 0
   upto_start =
-      let e = list_first xs (ranges_of s) u.good in
+      let e = list_first xs rs u.good in
       record { spells = rw e u; longer = rw e (omega (arith, read_regions_length y₀.count t₀)) }
 
-  pub upto_end : (t : List ℕ) (y : Tally) (i : ℕ) → Upto t₀ y₀ s t y i → i ≤ s.count → s.count ≤ i
-      → Spells t y (shortest (with_ranges (ranges_of s) (at xs)) top)
+  pub upto_end : (t : List ℕ) (y : Tally) (i : ℕ) → Upto t₀ y₀ rs t y i → i ≤ length rs → length rs ≤ i
+      → Spells t y (shortest (with_ranges rs (at xs)) top)
   upto_end t y i v l m =
-      let e : i ≡ length (ranges_of s) = omega (arith, length_is) in
-      let f : take i (ranges_of s) ≡ ranges_of s = ap (λ (k : ℕ). take k (ranges_of s)) e ∙ take-length (ranges_of s) in
-      rw f at v.spells
+      let e : i ≡ length rs = omega arith in
+      rw (e, take-length rs) at v.spells
 
-  module _ (t : List ℕ) (y : Tally) (i : ℕ) (v : Upto t₀ y₀ s t y i) (l : i < s.count) (d : Run) where
+  module _ (t : List ℕ) (y : Tally) (i : ℕ) (v : Upto t₀ y₀ rs t y i) (l : i < length rs) (d : Run) where
     abbrev r : Run
-    r = get_or s.ranges i d
+    r = get_or rs i d
 
-    here : get_or (ranges_of s) i (run_of 0 0) ≡ r
-    here = get_or-take s.count s.ranges i (run_of 0 0) l ∙ within (run_of 0 0) d s.ranges i (omega (arith, h.whole, h.room))
+    here : get_or rs i (run_of 0 0) ≡ r
+    here = get_or_default rs i (run_of 0 0) d l
 
-    apart : Apart xs (take i (ranges_of s)) (get_or (ranges_of s) i (run_of 0 0))
-    apart = w i (omega (arith, length_is))
+    apart : Apart xs (take i rs) r
+    apart = rw here at (w i l)
 
     pub fill_whole : Whole t y
-    fill_whole = spells_whole t y (list_at xs (ranges_of s) i) v.spells
+    fill_whole = spells_whole t y (list_at xs rs i) v.spells
 
     pub fill_some : r.low.0 < r.end.0
-    fill_some = rw here at apart.some
+    fill_some = apart.some
 
     pub fill_end : r.end.0 ≤ top
-    fill_end = rw here at apart.end
+    fill_end = apart.end
 
     pub fill_vacant : Vacant r.low.0 r.end.0 (read_regions y.count t)
-    fill_vacant =
-        rw (spells_read t y (list_at xs (ranges_of s) i) v.spells, ← here)
-        (list_vacant xs (ranges_of s) i (omega (arith, length_is)) (run_of 0 0) apart)
+    fill_vacant = rw (spells_read t y (list_at xs rs i) v.spells) (list_vacant xs rs i l d apart)
 
-    module _ (full : y₀.count + s.count ≤ 576) (e : List ℕ) (a : Changed) (k : Stored t e (shortest (after (change (Fill (tag 0 0))) r.low.0 r.end.0 (at (read_regions y.count t))) top) a) where
-      next : shortest (after (change (Fill (tag 0 0))) r.low.0 r.end.0 (at (read_regions y.count t))) top ≡ list_at xs (ranges_of s) (suc i)
-      next = rw (spells_read t y (list_at xs (ranges_of s) i) v.spells, ← here) (list_next xs (ranges_of s) i (omega (arith, length_is)) (run_of 0 0) apart)
+    module _ (full : y₀.count + length rs ≤ 576) (e : List ℕ) (a : Result Tally Refusal) (k : Stored t e (shortest (after (change (Fill (tag 0 0))) r.low.0 r.end.0 (at (read_regions y.count t))) top) a) where
+      next : shortest (after (change (Fill (tag 0 0))) r.low.0 r.end.0 (at (read_regions y.count t))) top ≡ list_at xs rs (suc i)
+      next = rw (spells_read t y (list_at xs rs i) v.spells) (list_next xs rs i l d apart)
 
-      more : length (list_at xs (ranges_of s) (suc i)) ≤ y₀.count + suc i
-      more = omega (arith, list_longer xs (ranges_of s) i (omega (arith, length_is)) (run_of 0 0) apart, v.longer)
+      more : length (list_at xs rs (suc i)) ≤ y₀.count + suc i
+      more = omega (arith, list_longer xs rs i l d apart, v.longer)
 
       room : length t / 24 ≡ 576
-      room = omega (arith, spells_length t y (list_at xs (ranges_of s) i) v.spells)
+      room = omega (arith, spells_length t y (list_at xs rs i) v.spells)
 
-      fits : leb (length (list_at xs (ranges_of s) (suc i))) (length t / 24) ≡ true
-      fits = le-leb (length (list_at xs (ranges_of s) (suc i))) (length t / 24) (omega (arith, room, more))
+      fits : leb (length (list_at xs rs (suc i))) (length t / 24) ≡ true
+      fits = le-leb (length (list_at xs rs (suc i))) (length t / 24) (omega (arith, room, more))
 
       -- there is always room
-      pub answer_is : a ≡ To (tally (list_at xs (ranges_of s) (suc i)))
+      answer_is : a ≡ Ok (tally (list_at xs rs (suc i)))
       unfolding stored_answer
       answer_is = k.answer ∙ rw (next, fits)
 
-      pub upto_next : (z : Tally) → a ≡ To z → Upto t₀ y₀ s e z (i + 1)
+      pub fills : IsOk a
+      fills = rw answer_is refl
+
+      pub upto_next : (z : Tally) → a ≡ Ok z → Upto t₀ y₀ rs e z (i + 1)
       unfolding stored_bytes
       upto_next z q =
-          let b : e ≡ table_bytes 576 (list_at xs (ranges_of s) (suc i)) = k.after ∙ rw (next, fits, room) in
+          let b : e ≡ table_bytes 576 (list_at xs rs (suc i)) = k.after ∙ rw (next, fits, room) in
           let p = answer_is in
-          let c : z ≡ tally (list_at xs (ranges_of s) (suc i)) = cc in
+          let c : z ≡ tally (list_at xs rs (suc i)) = cc in
           rw add-one (record {
-            spells = record { bytes = b; tally = c; room = omega (arith, more); good = list_good xs (ranges_of s) u.good (suc i) };
+            spells = record { bytes = b; tally = c; room = omega (arith, more); good = list_good xs rs u.good (suc i) };
             longer = more;
           })
 
 -- ---- from the table to the scratch table and back
 
-module _ (t : List ℕ) (bs : Bytes t) (y : Tally) (w : Whole t y) (n : length t ≡ 12288) (g : good_list Taken (read_regions y.count t) ≡ true) (s : Seen) (h : Holding s 0)
-    (v : AllApart (read_regions y.count t) (ranges_of s)) (m : ℕ) (em : m ≡ 24 * y.count) (u : List ℕ) (eu : u ≡ take m t ++ drop m (replicate 13824 0)) where
+module _ (t : List ℕ) (bs : Bytes t) (y : Tally) (w : Whole t y) (n : length t ≡ 12288) (g : good_list Taken (read_regions y.count t) ≡ true) (rs : List Run)
+    (v : AllApart (read_regions y.count t) rs) (few : length rs ≤ 64) (m : ℕ) (em : m ≡ 24 * y.count) (u : List ℕ) (eu : u ≡ take m t ++ drop m (replicate 13824 0)) where
   abbrev old : List Region
   old = read_regions y.count t
 
   abbrev new : List Region
-  new = shortest (with_ranges (ranges_of s) (at old)) top
+  new = shortest (with_ranges rs (at old)) top
 
   counted : length old ≡ y.count
   counted = read_regions_length y.count t
 
-  few : y.count ≤ 512
-  few = omega (arith, w.table.room)
+  counts : y.count ≤ 512
+  counts = omega (arith, w.table.room)
 
   copied : u ≡ table_bytes 576 old
   unfolding table_bytes
   copied =
-      let z : 13824 - m ≡ 24 * (576 - y.count) = omega (arith, few) in
+      let z : 13824 - m ≡ 24 * (576 - y.count) = omega (arith, counts) in
       eu ∙ rw (drop_zeros m 13824, z, em, counted, regions_bytes_read y.count t bs w.table.room)
 
   spelled : Spells u y old
   spelled =
       let c = counted in
       let q = w.total in
-      record { bytes = copied; tally = λ i. record { count = sym c i; total = record { 0 = q i } }; room = omega (arith, few); good = g }
+      record { bytes = copied; tally = λ i. record { count = sym c i; total = record { 0 = q i } }; room = omega (arith, counts); good = g }
 
   same : read_regions y.count u ≡ old
   same = spells_read u y old spelled
@@ -238,24 +228,24 @@ module _ (t : List ℕ) (bs : Bytes t) (y : Tally) (w : Whole t y) (n : length t
   pub copied_spells : Spells u y (read_regions y.count u)
   copied_spells = rw same spelled
 
-  pub copied_room : y.count + s.count ≤ 576
-  copied_room = omega (arith, few, h.room)
+  pub copied_room : y.count + length rs ≤ 576
+  copied_room = omega (arith, counts)
 
-  pub copied_apart : AllApart (read_regions y.count u) (ranges_of s)
+  pub copied_apart : AllApart (read_regions y.count u) rs
   copied_apart = rw same v
 
-  module _ (e : List ℕ) (z : Tally) (k : Spells e z (shortest (with_ranges (ranges_of s) (at (read_regions y.count u))) top)) where
+  module _ (e : List ℕ) (z : Tally) (k : Spells e z (shortest (with_ranges rs (at (read_regions y.count u))) top)) where
     filled : Spells e z new
     filled = rw same at k
 
     size_is : z.count ≡ length new
     size_is = ap (λ (x : Tally). x.count) filled.tally
 
-    pub placed_full : length t / 24 < z.count → Stored t t new NoRoom
+    pub placed_full : length t / 24 < z.count → Stored t t new (Err Full)
     unfolding stored_answer stored_bytes
     placed_full l = let f = lt-leb (length new) (length t / 24) (omega (arith, size_is)) in record { answer = rw f; after = rw f }
 
-    pub placed_done : z.count ≤ length t / 24 → (x : List ℕ) → x ≡ take (length t) e ++ drop (length t) t → Stored t x new (To z)
+    pub placed_done : z.count ≤ length t / 24 → (x : List ℕ) → x ≡ take (length t) e ++ drop (length t) t → Stored t x new (Ok z)
     unfolding stored_answer stored_bytes
     placed_done l x q =
         let f = le-leb (length new) (length t / 24) (omega (arith, size_is)) in
@@ -263,4 +253,4 @@ module _ (t : List ℕ) (bs : Bytes t) (y : Tally) (w : Whole t y) (n : length t
         let r : length t / 24 ≡ 512 = omega arith in
         let b : take (length t) e ≡ table_bytes 512 new = rw (n, filled.bytes, table_longer 512 64 new c) (take_at (table_bytes 512 new) (replicate (24 * 64) 0) 12288 (table_length 512 new c)) in
         let d : drop (length t) t ≡ [] = drop_of_length-le t {i = length t} (omega arith) in
-        record { answer = rw f (ap To filled.tally); after = q ∙ rw (b, d, append-nil, f, r) }
+        record { answer = rw f (ap Ok filled.tally); after = q ∙ rw (b, d, append-nil, f, r) }

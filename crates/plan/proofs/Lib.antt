@@ -1,10 +1,8 @@
 pub mod Any
-pub mod ByLines
-pub mod ByNumbers
 pub mod Filling
 pub mod Good
 pub mod Judging
 pub mod Order
-pub mod Ranges
 pub mod Sentences
+pub mod Walking
 pub mod Whole

@@ -24,7 +24,8 @@ use Rattle.plan.specs.Answers.{Answer, answer}
 use Rattle.plan.specs.declared.Line.{Line}
 use Rattle.plan.specs.Plan.{range_of, lies, share, passes, any, line_at, faulty, first_fault, with_ranges, at_zero, verdict, plan}
 use Rattle.plan.specs.Sentences.{SameInAnyOrder, OrderSentence}
-use Rattle.plan.proofs.Any.{any_found, found_any}
+use Rattle.std.proofs.lemmas.List.Folds.{list_any_at}
+use Rattle.plan.proofs.Any.{any_found}
 
 -- ---- lists in another order
 
@@ -35,7 +36,6 @@ same_length (Permᴰ.swap p q) = refl
 same_length (Permᴰ.trans p q) = same_length p ∙ same_length q
 
 same_any : (p : Run → Bool) {ls ms : List Line} → Permᴰ ls ms → any p (map range_of ls) ≡ any p (map range_of ms)
-unfolding any
 same_any p Permᴰ.nil = refl
 same_any p (Permᴰ.cons {a = k} {b = l} {l₁ = ls} {l₂ = ms} e q) = rw (e, same_any p q)
 same_any p (Permᴰ.swap {a = k} {b = l} {a' = l'} {b' = k'} {l = ls} e f) = rw (e, f) (go (p (range_of k')) (p (range_of l')) (any p (map range_of ls)))
@@ -65,7 +65,6 @@ Clear s (l ∷ ls) = (passes s l ≡ true) × ((any (share (range_of l)) (map ra
 
 module _ (s : Contents) where
   swapped : (k l : Line) (ls : List Line) → Clear s (k ∷ l ∷ ls) → Clear s (l ∷ k ∷ ls)
-  unfolding any
   swapped k l ls (pk, (nk, (pl, (nl, c)))) =
       let n = neither (share (range_of k) (range_of l)) (any (share (range_of k)) (map range_of ls)) nk in
       let t : share (range_of l) (range_of k) ≡ false = share_turned (range_of l) (range_of k) ∙ n.0 in
@@ -101,7 +100,7 @@ module _ (s : Contents) where
       no (share (range_of (line_at ls i)) (range_of l)) (λ e.
       let y : share (range_of l) (range_of (line_at ls i)) ≡ true = share_turned (range_of l) (range_of (line_at ls i)) ∙ e in
       clash (any (share (range_of l)) (map range_of ls))
-      (found_any (share (range_of l)) (run_of 0 0) (map range_of ls) i (omega (arith, length-map ls range_of)) (rw (get_or-map range_of ls i (line_at [] 0)) y))
+      (list_any_at (share (range_of l)) (map range_of ls) i (run_of 0 0) (omega (arith, length-map ls range_of)) (rw (get_or-map range_of ls i (line_at [] 0)) y))
       n)
 
   abbrev Unfaulted : List Line → Type 0
@@ -121,7 +120,6 @@ module _ (s : Contents) where
   first false e = absurd (zero_not_one cc)
 
   unfaulted_clear : (ls : List Line) → Unfaulted ls → Clear s ls
-  unfolding any
   unfaulted_clear [] f = tt
   unfaulted_clear (l ∷ ls) f =
       (first (passes s l) (f 0 (omega arith)), (none_shared l ls (λ i h. (parts i h).0), unfaulted_clear ls (λ i h. (parts i h).1)))
@@ -132,7 +130,6 @@ module _ (s : Contents) where
           (f (suc i) (omega arith))
 
   clear_unfaulted : (ls : List Line) → Clear s ls → Unfaulted ls
-  unfolding any
   clear_unfaulted [] c i h = absurd (not-suc-le-zero h)
   clear_unfaulted (l ∷ ls) c zero h = rw c.0
   clear_unfaulted (l ∷ ls) c (suc i) h =

@@ -37,7 +37,8 @@ use Rattle.search.proofs.Eligible.{passes_eligible, eligible_passes}
 use Rattle.plan.specs.declared.Line.{Line}
 use Rattle.plan.specs.Plan.{range_of, lies, share, passes, any, line_at, faulty, first_fault, with_ranges, at_zero, verdict, plan}
 use Rattle.plan.specs.Sentences.{In, Fit, Share, Accepted, SharesEarlier, AtFault, FirstFault, Finished, PlanSentence, Reserved, ReservedSentence}
-use Rattle.plan.proofs.Any.{Found, any_found, found_any}
+use Rattle.std.proofs.lemmas.List.Folds.{list_any_at}
+use Rattle.plan.proofs.Any.{Found, any_found}
 use Rattle.plan.proofs.Judging.{refusal_ready, passes_fine}
 use Rattle.plan.proofs.Filling.{list_good}
 use Rattle.plan.proofs.Whole.{unfaulted}
@@ -108,7 +109,7 @@ module _ (b : List ℕ) (g : good current b ≡ true) where
 
     earlier_shares : SharesEarlier ls i → any (share (range_of own)) before ≡ true
     earlier_shares h =
-        found_any (share (range_of own)) (run_of 0 0) before h.earlier (omega (arith, h.before, before_length))
+        list_any_at (share (range_of own)) before h.earlier (run_of 0 0) (omega (arith, h.before, before_length))
         (rw (line_before ls i h.earlier h.before) (address_share (line_at ls h.earlier) own h.share))
 
     faulty_fault : faulty s ls i ≡ true → AtFault s ls i
@@ -189,7 +190,7 @@ module _ (b : List ℕ) (g : good current b ≡ true) where
 -- x is in one of the lines' ranges, or in none
 pub in_any : (ls : List Line) (i x : ℕ) → i < length ls → In (line_at ls i) x → any (lies x) (map range_of ls) ≡ true
 in_any ls i x l h =
-    found_any (lies x) (run_of 0 0) (map range_of ls) i (omega (arith, length-map ls range_of))
+    list_any_at (lies x) (map range_of ls) i (run_of 0 0) (omega (arith, length-map ls range_of))
     (rw (get_or-map range_of ls i (line_at [] 0)) (in_lies (line_at ls i) x h))
 
 any_in : (ls : List Line) (x : ℕ) → any (lies x) (map range_of ls) ≡ true → Found (λ l. lies x (range_of l)) (line_at [] 0) ls
@@ -248,7 +249,6 @@ module _ (b : List ℕ) (g : good current b ≡ true) (ls : List Line) where
 
 -- no lines: the list stays
 none_new : (b : List ℕ) (g : good current b ≡ true) → new b g [] ≡ (contents current b).taken
-unfolding any
 none_new b g = round_trip top (contents current b).taken (good_rises Taken (contents current b).taken (taken_good b g []))
 
 -- ---- the sentences

@@ -1,36 +1,34 @@
 -- The lines judged one after the other come to what the definition says of the whole plan. Assumes nothing.
-use Prim.Native.Nat.{ℕ, zero, suc, ◌+◌, ◌≤◌, ◌<◌, min, max}
+use Prim.Native.Nat.{ℕ, ◌+◌, ◌≤◌, ◌<◌, min, max}
 use native.Mathlib.Nat.{not-suc-le-zero}
-use native.Mathlib.Numerals.{add-one}
 use mathlib.Core.Path.{◌≡◌, refl, sym, ap, ◌∙◌}
 use mathlib.Core.Bool.{Bool, true, false, cond, not, ◌&&◌, ◌||◌}
 use mathlib.Core.List.{List, [], ◌∷◌, ◌++◌, map, map-append, append-nil}
 use mathlib.Core.Logic.{◌⊎◌, inl, inr}
 use mathlib.Core.Option.{Option, none, some}
 use native.Mathlib.Omega.{arith}
-use lib.Dec.{leb, ltb, eqb}
-use lib.ListN.{length, take, set, length-set, length-map, length-append, get_or-map}
-use lib.Seq.{take-suc-set, append_snoc, take_at, get_or-append_seam}
-use borrow.Author.Tests.{eq-eqb, ne_eqb, leb-true, ltb-true, lt-ltb}
+use lib.Dec.{leb, ltb}
+use lib.ListN.{length, take, length-map, length-append, get_or-map}
+use lib.Seq.{append_snoc, take_at, get_or-append_seam}
+use borrow.Author.Tests.{leb-true, ltb-true, lt-ltb}
+use Rattle.std.proofs.lemmas.List.{take-map}
+use Rattle.std.proofs.Common.{Result, Ok, Err}
 use Rattle.address.proofs.Tests.{clash, both, le_or_lt, zero_not_one}
 use Rattle.regions.specs.declared.Run.{Run}
 use Rattle.block.specs.Block.{current, Contents, contents, good}
 use Rattle.fits.specs.Eligible.{lowest, Gives}
 use Rattle.fits.proofs.Extremes.{lowest_gives}
+use Rattle.refusals.specs.Numbers.{number}
+use Rattle.range.specs.Outcomes.{outcome}
 use Rattle.plan.specs.Answers.{answer, with_index}
+use Rattle.plan.specs.declared.Fault.{Fault}
 use Rattle.plan.specs.declared.Line.{Line}
-use Rattle.plan.specs.declared.Seen.{Seen}
+use Rattle.refusals.specs.declared.Refusal.{Refusal}
+use Rattle.refusals.specs.declared.Refusal.TheVariants.{Block, Lines, Line as LineFails}
 use Rattle.plan.specs.Plan.{range_of, lies, share, passes, any, line_at, faulty, first_fault, at_zero, reserving, verdict, plan}
-use Rattle.plan.specs.Steps.{nothing_seen, ranges_of, noted, faulted, begun, judged, judged_all, ended, Apart, AllApart, Placeable}
+use Rattle.plan.specs.Steps.{begun, judged, judged_all, Apart, AllApart}
 use Rattle.plan.proofs.Any.{any_none}
 use Rattle.plan.proofs.Judging.{passes_fine}
-
--- ---- lists
-
-take_map : {A B : Type 0} (f : A → B) (i : ℕ) (xs : List A) → take i (map f xs) ≡ map f (take i xs)
-take_map f zero xs = refl
-take_map f (suc i) [] = refl
-take_map f (suc i) (x ∷ xs) = ap (λ (ys : List _). f x ∷ ys) (take_map f i xs)
 
 -- the lowest number that passes, named
 lowest_is : (p : ℕ → Bool) (n m : ℕ) → m < n → ((i : ℕ) → i < m → p i ≡ false) → p m ≡ true → lowest p n ≡ some m
@@ -52,84 +50,45 @@ lowest_none p n h = go (lowest p n) (lowest_gives p n)
     go none g = refl
     go (some a) g = absurd (clash (p a) g.0 (h a g.1.0))
 
--- ---- what is seen after some lines, none of them at fault
-
-record Sees (s : Seen) (ls : List Line) : Type 0 where
-  number : s.number ≡ 0
-  index : s.index ≡ 0
-  count : s.count ≡ length ls
-  ranges : ranges_of s ≡ map range_of ls
-  whole : length s.ranges ≡ 64
-
-sees_nothing : Sees (nothing_seen 0) []
-sees_nothing = record { number = refl; index = refl; count = refl; ranges = refl; whole = refl }
-
-sees_more : (s : Seen) (ls : List Line) (l : Line) → Sees s ls → length ls < 64 → Sees (noted s (range_of l)) (ls ++ (l ∷ []))
-sees_more s ls l v n =
-    record {
-      number = v.number;
-      index = v.index;
-      count = omega (arith, v.count, length-append ls (l ∷ []));
-      ranges = ap (λ (k : ℕ). take k (set s.ranges s.count (range_of l))) (add-one s.count)
-          ∙ take-suc-set s.ranges s.count (range_of l) (omega (arith, v.count, v.whole))
-          ∙ ap (λ (x : List Run). x ++ (range_of l ∷ [])) v.ranges
-          ∙ sym (map-append range_of ls (l ∷ []));
-      whole = length-set s.ranges s.count (range_of l) ∙ v.whole;
-    }
-
--- once there is a number nothing changes
-settled : (b : List ℕ) (s : Seen) → (s.number ≡ 0 → ⊥) → (ls : List Line) → judged_all b s ls ≡ s
-unfolding judged
-settled b s h [] = refl
-settled b s h (l ∷ ls) =
-    let e : judged b s l ≡ s = rw (ne_eqb s.number 0 h) in
-    ap (λ (x : Seen). judged_all b x ls) e ∙ settled b s h ls
-
 -- ---- all lines
 
 module _ (b : List ℕ) where
   abbrev c : Contents
   c = contents current b
 
-  -- no line is at fault, and all are seen; or the first at fault is told
-  data Result (s : Seen) (ls : List Line) : Type 0 where
-    accepted : Sees s ls → ((i : ℕ) → i < length ls → faulty c ls i ≡ false) → Result s ls
-    refused : (i : ℕ) → s.number ≡ 13 → s.index ≡ i → first_fault c ls ≡ some i → Result s ls
+  -- no line is at fault, and these are their ranges; or the first at fault is told
+  data Told (r : Result (List Run) Fault) (ls : List Line) : Type 0 where
+    accepted : r ≡ Ok (map range_of ls) → ((i : ℕ) → i < length ls → faulty c ls i ≡ false) → Told r ls
+    refused : (i : ℕ) → r ≡ Err (record { refusal = LineFails; index = i }) → first_fault c ls ≡ some i → Told r ls
 
-  -- the line behind those seen
+  -- the line behind those judged
   faulty_next : (ps ls : List Line) (l : Line) → faulty c (ps ++ (l ∷ ls)) (length ps) ≡ not (passes c l) || any (share (range_of l)) (map range_of ps)
   faulty_next ps ls l = rw (get_or-append_seam ps l ls, take_at ps (l ∷ ls) (length ps) refl)
 
-  judged_next : (s : Seen) (ps : List Line) (l : Line) → Sees s ps → (t : Bool) → not (passes c l) || any (share (range_of l)) (map range_of ps) ≡ t
-      → judged b s l ≡ cond t (faulted s) (noted s (range_of l))
+  judged_next : (ps : List Line) (l : Line) (t : Bool) → not (passes c l) || any (share (range_of l)) (map range_of ps) ≡ t
+      → judged c (map range_of ps) l ≡ cond t (Err (record { refusal = LineFails; index = length ps })) (Ok (range_of l))
   unfolding judged
-  judged_next s ps l v t e = rw (eq-eqb s.number 0 v.number, v.ranges, ← e) (go (passes c l) (any (share (range_of l)) (map range_of ps)))
+  judged_next ps l t e = rw (length-map ps range_of, ← e) (go (passes c l) (any (share (range_of l)) (map range_of ps)) (Ok (range_of l)) (Err (record { refusal = LineFails; index = length ps })))
     where
-      go : (p q : Bool) → cond (p && not q) (noted s (range_of l)) (faulted s) ≡ cond (not p || q) (faulted s) (noted s (range_of l))
-      go true true = refl
-      go true false = refl
-      go false q = refl
+      go : (p q : Bool) (x y : Result Run Fault) → cond (p && not q) x y ≡ cond (not p || q) y x
+      go true true x y = refl
+      go true false x y = refl
+      go false q x y = refl
 
-  all_judged : (ps ls : List Line) (s : Seen) → Sees s ps → ((i : ℕ) → i < length ps → faulty c (ps ++ ls) i ≡ false) → length (ps ++ ls) ≤ 64 → Result (judged_all b s ls) (ps ++ ls)
-  all_judged ps [] s v f n = rw (append-nil ps) (accepted v (rw (append-nil ps) at f))
-  all_judged ps (l ∷ ls) s v f n = go (faulty c (ps ++ (l ∷ ls)) (length ps)) refl (all_judged (ps ++ (l ∷ [])) ls (noted s (range_of l)))
+  all_judged : (ps ls : List Line) → ((i : ℕ) → i < length ps → faulty c (ps ++ ls) i ≡ false) → Told (judged_all c (map range_of ps) ls) (ps ++ ls)
+  all_judged ps [] f = rw (append-nil ps) (accepted refl (rw (append-nil ps) at f))
+  all_judged ps (l ∷ ls) f = go (faulty c (ps ++ (l ∷ ls)) (length ps)) refl (all_judged (ps ++ (l ∷ [])) ls)
     where
-      longer : length ps < length (ps ++ (l ∷ ls))
-      longer = omega (arith, length-append ps (l ∷ ls))
-
       go : (t : Bool) → faulty c (ps ++ (l ∷ ls)) (length ps) ≡ t
-          → (Sees (noted s (range_of l)) (ps ++ (l ∷ [])) → ((i : ℕ) → i < length (ps ++ (l ∷ [])) → faulty c ((ps ++ (l ∷ [])) ++ ls) i ≡ false) → length ((ps ++ (l ∷ [])) ++ ls) ≤ 64
-          → Result (judged_all b (noted s (range_of l)) ls) ((ps ++ (l ∷ [])) ++ ls))
-          → Result (judged_all b (judged b s l) ls) (ps ++ (l ∷ ls))
+          → (((i : ℕ) → i < length (ps ++ (l ∷ [])) → faulty c ((ps ++ (l ∷ [])) ++ ls) i ≡ false) → Told (judged_all c (map range_of (ps ++ (l ∷ []))) ls) ((ps ++ (l ∷ [])) ++ ls))
+          → Told (judged_all c (map range_of ps) (l ∷ ls)) (ps ++ (l ∷ ls))
       go true e ih =
-          let j : judged b s l ≡ faulted s = judged_next s ps l v true (sym (faulty_next ps ls l) ∙ e) in
-          let k : judged_all b (judged b s l) ls ≡ faulted s = ap (λ (x : Seen). judged_all b x ls) j ∙ settled b (faulted s) (λ z. omega (arith, z)) ls in
-          rw k (refused (length ps) refl v.count (lowest_is (faulty c (ps ++ (l ∷ ls))) (length (ps ++ (l ∷ ls))) (length ps) longer f e))
+          let longer : length ps < length (ps ++ (l ∷ ls)) = omega (arith, length-append ps (l ∷ ls)) in
+          rw (judged_next ps l true (sym (faulty_next ps ls l) ∙ e), judged_all)
+          (refused (length ps) refl (lowest_is (faulty c (ps ++ (l ∷ ls))) (length (ps ++ (l ∷ ls))) (length ps) longer f e))
       go false e ih =
-          let j : judged b s l ≡ noted s (range_of l) = judged_next s ps l v false (sym (faulty_next ps ls l) ∙ e) in
-          let a : (ps ++ (l ∷ [])) ++ ls ≡ ps ++ (l ∷ ls) = append_snoc ps l ls in
-          let w : Sees (noted s (range_of l)) (ps ++ (l ∷ [])) = sees_more s ps l v (omega (arith, longer)) in
-          rw j (rw a at (ih w (rw a before) (rw a n)))
+          rw (judged_next ps l false (sym (faulty_next ps ls l) ∙ e), judged_all)
+          (rw (append_snoc ps l ls, map-append range_of ps (l ∷ [])) at (ih (rw (append_snoc ps l ls) before)))
         where
           before : (i : ℕ) → i < length (ps ++ (l ∷ [])) → faulty c (ps ++ (l ∷ ls)) i ≡ false
           before i h = last (le_or_lt (length ps) i)
@@ -137,9 +96,6 @@ module _ (b : List ℕ) where
               last : (length ps ≤ i) ⊎ (i < length ps) → faulty c (ps ++ (l ∷ ls)) i ≡ false
               last (inl k) = let z : i ≡ length ps = omega (arith, length-append ps (l ∷ [])) in rw z e
               last (inr k) = f i k
-
-  whole_judged : (ls : List Line) → length ls ≤ 64 → Result (judged_all b (nothing_seen 0) ls) ls
-  whole_judged ls n = all_judged [] ls (nothing_seen 0) sees_nothing (λ i l. absurd (not-suc-le-zero l)) n
 
 -- ---- what comes of it
 
@@ -175,44 +131,68 @@ lines_apart b g ls f i l =
     let k : i < length ls = omega (arith, length-map ls range_of) in
     let l₀ : Line = line_at ls i in
     let p = unfaulted (passes (contents current b) l₀) (any (share (range_of l₀)) (map range_of (take i ls))) (f i k) in
-    rw (take_map range_of i ls, get_or-map range_of ls i (line_at [] 0)) (line_apart b g l₀ (map range_of (take i ls)) p.0 p.1)
+    rw (take-map range_of i ls, get_or-map range_of ls i (line_at [] 0)) (line_apart b g l₀ (map range_of (take i ls)) p.0 p.1)
 
-pub placeable_all : (b : List ℕ) (ls : List Line) → Placeable b (judged_all b (begun b (length ls)) ls)
-unfolding begun
-placeable_all b ls = go (good current b) refl (leb (length ls) 64) refl
-  where
-    never : (n : ℕ) → (n ≡ 0 → ⊥) → Placeable b (judged_all b (nothing_seen n) ls)
-    never n h =
-        rw (settled b (nothing_seen n) h ls)
-        (record { good = λ z. absurd (h z); holding = λ z. absurd (h z); apart = λ z. absurd (h z) })
+-- ---- the answer
 
-    judgements : good current b ≡ true → (s : Seen) → Result b s ls → length ls ≤ 64 → Placeable b s
-    judgements g s (refused i e j o) n =
-        let h : s.number ≡ 0 → ⊥ = λ z. omega (arith, e) in
-        record { good = λ z. g; holding = λ z. absurd (h z); apart = λ z. absurd (h z) }
-    judgements g s (accepted v f) n =
-        record {
-          good = λ z. g;
-          holding = λ z. record { whole = v.whole; room = omega (arith, v.count) };
-          apart = λ z. rw v.ranges (lines_apart b g ls f);
-        }
+abbrev done : Unit {0}
+done = tt
 
-    go : (t : Bool) → good current b ≡ t → (u : Bool) → leb (length ls) 64 ≡ u → Placeable b (judged_all b (nothing_seen (cond t (cond u 0 14) 1)) ls)
-    go false g u e = never 1 (λ z. omega (arith, z))
-    go true g false e = never 14 (λ z. omega (arith, z))
-    go true g true e = let n = leb-true (length ls) 64 e in judgements g (judged_all b (nothing_seen 0) ls) (whole_judged b ls n) n
+module _ (b : List ℕ) (ls : List Line) (n : ℕ) (m : n ≡ length ls) where
+  pub told_begun : (e : Refusal) → Err e ≡ begun b n → with_index 0 (answer (number e) b []) ≡ plan current ls b
+  unfolding begun plan
+  told_begun e h = go (good current b) (leb (length ls) 64) (rw m at h)
+    where
+      go : (t u : Bool) → Err e ≡ cond t (cond u (Ok done) (Err Lines)) (Err Block)
+          → with_index 0 (answer (number e) b []) ≡ cond t (cond u (verdict current ls b (first_fault (contents current b) ls)) (answer 14 b [])) (answer 1 b [])
+      go true true q = cc
+      go true false q = let p : e ≡ Lines = cc in rw p
+      go false u q = let p : e ≡ Block = cc in rw p
 
-pub ended_all : (b : List ℕ) (ls : List Line) → ended b (judged_all b (begun b (length ls)) ls) ≡ plan current ls b
-unfolding begun ended plan
-ended_all b ls = go (good current b) refl (leb (length ls) 64) refl
-  where
-    told : (s : Seen) → Result b s ls → cond (eqb s.number 0) (at_zero (reserving current (ranges_of s) b)) (with_index s.index (answer s.number b [])) ≡ verdict current ls b (first_fault (contents current b) ls)
-    told s (refused i e j o) = rw (o, e, j)
-    told s (accepted v f) = rw (v.number, v.ranges, lowest_none (faulty (contents current b) ls) (length ls) f)
+  module _ (h : Ok tt ≡ begun b n) where
+    begun_is : (good current b ≡ true) × (leb (length ls) 64 ≡ true)
+    unfolding begun
+    begun_is = go (good current b) (leb (length ls) 64) (rw m at h)
+      where
+        go : (t u : Bool) → Ok tt ≡ cond t (cond u (Ok done) (Err Lines)) (Err Block) → (t ≡ true) × (u ≡ true)
+        go true true q = (refl, refl)
+        go true false q = cc
+        go false u q = cc
 
-    go : (t : Bool) → good current b ≡ t → (u : Bool) → leb (length ls) 64 ≡ u
-        → ended b (judged_all b (nothing_seen (cond t (cond u 0 14) 1)) ls)
-        ≡ cond t (cond u (verdict current ls b (first_fault (contents current b) ls)) (answer 14 b [])) (answer 1 b [])
-    go false g u e = rw (settled b (nothing_seen 1) (λ z. omega (arith, z)) ls)
-    go true g false e = rw (settled b (nothing_seen 14) (λ z. omega (arith, z)) ls)
-    go true g true e = told (judged_all b (nothing_seen 0) ls) (whole_judged b ls (leb-true (length ls) 64 e))
+    pub begun_good : good current b ≡ true
+    begun_good = begun_is.0
+
+    pub begun_few : length ls ≤ 64
+    begun_few = leb-true (length ls) 64 begun_is.1
+
+    plan_is : plan current ls b ≡ verdict current ls b (first_fault (contents current b) ls)
+    unfolding plan
+    plan_is = rw (begun_is.0, begun_is.1)
+
+    pub told_fault : (f : Fault) → Err f ≡ judged_all (contents current b) [] ls → with_index f.index (answer (number f.refusal) b []) ≡ plan current ls b
+    told_fault f e = go (all_judged b [] ls (λ i l. absurd (not-suc-le-zero l))) ∙ sym plan_is
+      where
+        go : Told b (judged_all (contents current b) [] ls) ls → with_index f.index (answer (number f.refusal) b []) ≡ verdict current ls b (first_fault (contents current b) ls)
+        go (accepted p u) = cc
+        go (refused i p o) = let q : f ≡ record { refusal = LineFails; index = i } = cc in rw (q, o)
+
+    module _ (rs : List Run) (e : Ok rs ≡ judged_all (contents current b) [] ls) where
+      -- no line is at fault
+      record Sound : Type 0 where
+        ranges : rs ≡ map range_of ls
+        clean : (i : ℕ) → i < length ls → faulty (contents current b) ls i ≡ false
+
+      sound : Sound
+      sound = go (all_judged b [] ls (λ i l. absurd (not-suc-le-zero l)))
+        where
+          go : Told b (judged_all (contents current b) [] ls) ls → Sound
+          go (accepted p u) = record { ranges = cc; clean = u }
+          go (refused i p o) = absurd cc
+
+      pub told_apart : AllApart (contents current b).taken rs
+      told_apart = rw sound.ranges (lines_apart b begun_good ls sound.clean)
+
+      pub told_reserved : (n : ℕ) (d : List ℕ) (xs : List Run) → outcome n d ≡ reserving current xs b → xs ≡ rs → with_index 0 (answer n d []) ≡ plan current ls b
+      told_reserved n d xs q w =
+          let o = lowest_none (faulty (contents current b) ls) (length ls) sound.clean in
+          ap at_zero (rw (w, sound.ranges) at q) ∙ sym (plan_is ∙ rw o)

@@ -2,6 +2,7 @@
 use Rattle.std.specs.Prelude.{ℕ, zero, suc, min, List, [], ◌∷◌, length, get_or}
 use Rattle.fits.specs.Eligible.{query}
 use Rattle.plan.specs.declared.Line.{Line}
+use Rattle.plan.specs.declared.Numbers.{Numbers as Slices}
 
 -- a line's fields, in the request's order
 pub record Numbers : Type 0 where
@@ -16,6 +17,10 @@ pub record Numbers : Type 0 where
 abbrev pub numbers : (sizes aligns starts ends nodes wishes ats : List ℕ) → Numbers
 numbers sizes aligns starts ends nodes wishes ats =
     record { sizes = sizes; aligns = aligns; starts = starts; ends = ends; nodes = nodes; wishes = wishes; ats = ats }
+
+-- those of the slices lent
+abbrev pub lists : Slices → Numbers
+lists s = numbers s.sizes.now s.aligns.now s.starts.now s.ends.now s.nodes.now s.wishes.now s.ats.now
 
 -- the line at an index: the number there of each list
 abbrev pub line_of : Numbers → ℕ → Line

@@ -1,5 +1,6 @@
 -- E12: a placement plan. Which lines pass, which line is the first at fault, and what the whole plan answers and leaves. Assumes nothing.
-use Rattle.std.specs.Prelude.{ℕ, ◌+◌, min, max, Bool, false, cond, not, ◌&&◌, ◌||◌, List, [], ◌∷◌, map, leb, ltb, eqb, length, take, get_or}
+use Rattle.std.specs.Prelude.{ℕ, ◌+◌, min, max, Bool, cond, not, ◌&&◌, ◌||◌, List, [], map, leb, ltb, eqb, length, take, get_or}
+use Rattle.std.specs.List.{list_any}
 use Rattle.std.proofs.Math.Option.{Option, none, some}
 use Rattle.regions.specs.declared.Run.{Run}
 use Rattle.regions.specs.declared.Kind.TheVariants.{Taken}
@@ -36,9 +37,8 @@ passes s l = eqb (refusal l.query) 0 && eligible (window s.settings.limit.0 l.qu
 -- ---- the lines of a plan
 
 -- p holds of one of them
-unfoldable pub any : {A : Type 0} → (A → Bool) → List A → Bool
-any p [] = false
-any p (x ∷ xs) = p x || any p xs
+abbrev pub any : {A : Type 0} → (A → Bool) → List A → Bool
+any p xs = list_any p xs
 
 -- the line at an index, from 0; past the end one of size 0
 abbrev pub line_at : List Line → ℕ → Line

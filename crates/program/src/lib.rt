@@ -1,9 +1,7 @@
-// What the programs on files share: the files that the command line names, and what came of taking one in, printed.
+// What the programs on files share: the files that the command line names, and what came of taking one in, printed. A write that fails is not told of.
 #![tactic(auto)]
 
-ghost use Rattle.std.specs.Prelude.{◌≡◌, true, ◌*◌, ◌≤◌, length};
-ghost use Rattle.io.specs.Counts.{IsPrefixLen};
-ghost use Rattle.std.specs.Io.{ReadsAtMost};
+ghost use Rattle.std.specs.Prelude.{◌≡◌, true, ◌≤◌, vec_len, IfOk, IfSome};
 ghost use Rattle.block.specs.Block.{current, good};
 
 use block::get_header;
@@ -11,236 +9,159 @@ use range::table_span;
 use regions::bytes::get_region;
 use regions::{Kind, Region};
 use std::env::FillError;
-use std::fs::File;
-use std::io::{Error, Read};
+use std::fmt::Display;
+use std::io::{Error, ErrorKind, Read};
 use std::rt::Env;
-use std::{fs, io};
-
-// Whether a file was read, and how many bytes of it.
-#[derive(Drop)]
-pub struct Input {
-    pub read: bool,
-    pub count: usize,
-}
+use std::{fmt, fs, io};
 
 // Room for a file's name, as long as the system takes one.
 const PATH: usize = 4096;
 
-const FAILED: Input = Input {
-    read: false,
-    count: 0,
-};
-
-// The errors that are told of before the system is asked: EINVAL, ENAMETOOLONG and EILSEQ.
-const MISSING: i32 = 22;
-
-const TOO_LONG: i32 = 36;
-
-const NOT_TEXT: i32 = 84;
-
-// A write that fails is not told of, here and below.
-pub fn say(rt: &impl Print, text: &[u8]) {
-    let _ = rt.write_all(text);
+// A program, and the name by which it speaks of itself.
+#[derive(Clone, Copy)]
+pub struct Program<'a> {
+    pub rt: &'a HostRuntime,
+    pub name: &'a str,
 }
 
-pub fn say_error(rt: &HostRuntime, text: &[u8]) {
-    let _ = rt.stderr().write_all(text);
-}
+// A record as its line has it: base, size, flags, node, in decimal, one space between.
+#[derive(Clone, Copy)]
+struct Fields(Region);
 
-pub fn say_number(rt: &impl Print, n: u64) {
-    let _ = rt.print(n);
-}
-
-pub fn say_error_number(rt: &impl Eprint, n: u64) {
-    let _ = rt.eprint(n);
-}
-
-// The fields in their order: base, size, flags, node.
-fn say_region(rt: &impl Print, r: Region) {
-    let base = r.base;
-    let size = r.size;
-    let tag = r.tag;
-    say_number(rt, base.0);
-    say(rt, b" ");
-    say_number(rt, size.0);
-    say(rt, b" ");
-    say_number(rt, tag.flags as u64);
-    say(rt, b" ");
-    say_number(rt, tag.node as u64);
-    say(rt, b"\n");
-}
-
-// The first `count` records of a table.
-fn say_records(rt: &impl Print, t: &[u8], count: usize)
-    requires { 24 * count ≤ length t.now }
-{
-    let mut i = 0;
-    while i < count {
-        say_region(rt, get_region(t, 24 * i));
-        i += 1;
+impl Display for Fields {
+    fn fmt<W: fmt::Write>(&self, f: &mut fmt::Formatter<W>) -> fmt::Result {
+        let Region { base, size, tag } = self.0;
+        write!(f, "{} {} {} {}", base.0, size.0, tag.flags, tag.node)
     }
 }
 
-// A table of a good block.
+// The records of a table of a good block.
 fn say_table(rt: &impl Print, block: &[u8], kind: Kind)
     requires { good current block.now ≡ true }
 {
     let span = table_span(kind);
-    let start = span.start;
-    let end = span.end;
-    let tally = get_header(block).tally(kind);
-    say_records(rt, &block[start..end], tally.count as usize);
+    let table = &block[span.start..span.end];
+    let count = get_header(block).tally(kind).count as usize;
+    for i in 0..count {
+        let _ = println!(rt; "{}", Fields(get_region(table, 24 * i)));
+    }
 }
 
-// The number answered and every record of both tables: a line each, in decimal, one space between the fields.
+// The number answered and every record of both tables, a line each.
 pub fn say_answer(rt: &impl Print, number: u32, block: &[u8])
     requires { good current block.now ≡ true }
 {
-    say_number(rt, number as u64);
-    say(rt, b"\n");
+    let _ = println!(rt; "{number}");
     say_table(rt, block, Kind::Memory);
     say_table(rt, block, Kind::Taken);
 }
 
-// Says why a call on a file failed: the system's words, without the number that std puts behind them.
-fn say_failure(rt: &HostRuntime, program: &[u8], path: &[u8], error: Error) {
-    say_error(rt, program);
-    say_error(rt, b": ");
-    say_error(rt, path);
-    say_error(rt, b": ");
-    match error.to_string(rt.alloc()) {
-        Ok(words) => match words.as_str().rsplit_once(" (os error ") {
-            Some((reason, _)) => say_error(rt, reason.as_bytes()),
-            None => say_error(rt, words.as_bytes()),
-        },
-        Err(_) => {
-            let _ = rt.eprint(error);
-        }
-    }
-    say_error(rt, b"\n");
-}
-
-// Begins a line on standard error about the file that argument k names.
-pub fn say_about(rt: &HostRuntime, program: &[u8], k: usize) {
-    let mut path = [0u8; PATH];
-    let n = match rt.arg(k, &mut path) {
-        Ok(n) => n,
-        Err(_) => 0,
-    };
-    say_error(rt, program);
-    say_error(rt, b": ");
-    say_error(rt, &path[..n]);
-    say_error(rt, b": ");
-}
-
-// Reads until the room is full or the file ends, and answers how many bytes of it are read.
-fn read_full(file: &mut File, room: &mut [u8]) -> io::Result<usize>
-    ensures { ReadsAtMost result room.new }
-{
-    let mut done = 0;
-    while done < room.len() {
-        let n = file.read(&mut room[done..])?;
-        if n == 0 {
-            return Ok(done);
-        }
-        done += n;
-    }
-    Ok(done)
-}
-
-// Reads an open file, as much of it as there is room for. One more read tells whether one that fills the room can be read on.
-fn read_file(
-    rt: &HostRuntime,
-    program: &[u8],
-    file: &mut File,
-    path: &[u8],
-    room: &mut [u8],
-) -> Input
-    ensures { IsPrefixLen result.count room.new }
-{
-    let n = match read_full(file, room) {
-        Ok(n) => n,
-        Err(error) => {
-            say_failure(rt, program, path, error);
-            return FAILED;
-        }
-    };
-    let mut more = [0u8; 1];
-    if let Err(error) = file.read(&mut more) {
-        say_failure(rt, program, path, error);
-        return FAILED;
-    }
-    Input {
-        read: true,
-        count: n,
-    }
-}
-
-// Opens a file for reading. std takes names that are UTF-8 alone.
-fn open_named(rt: &HostRuntime, path: &[u8]) -> io::Result<File> {
-    match str::from_utf8(path) {
-        Ok(name) => fs::open(rt, name),
-        Err(_) => Err(Error::from_raw_os_error(NOT_TEXT)),
-    }
-}
-
-// Why an argument is not to be had.
+// Why an argument is not to be had, in the system's words.
 fn why_no_argument(error: FillError) -> Error {
     match error {
-        FillError::NotPresent => Error::from_raw_os_error(MISSING),
-        FillError::TooLong => Error::from_raw_os_error(TOO_LONG),
+        FillError::NotPresent => Error::new(ErrorKind::InvalidInput, "Invalid argument"),
+        FillError::TooLong => Error::new(ErrorKind::InvalidFilename, "File name too long"),
     }
 }
 
-// Reads the file that argument k names; says on standard error what went wrong.
-pub fn read_named(rt: &HostRuntime, program: &[u8], k: usize, room: &mut [u8]) -> Input
-    ensures { IsPrefixLen result.count room.new }
-{
-    let mut path = [0u8; PATH];
-    let n = match rt.arg(k, &mut path) {
-        Ok(n) => n,
-        Err(error) => {
-            say_failure(rt, program, b"the file's name", why_no_argument(error));
-            return FAILED;
+impl Program<'_> {
+    // A line on standard error about a file, whose name need not be text.
+    fn say_of(self, path: &[u8], words: impl Display + Drop) {
+        let _ = eprint!(self.rt; "{}: ", self.name);
+        let _ = self.rt.stderr().write_all(path);
+        let _ = eprintln!(self.rt; ": {words}");
+    }
+
+    // Why a call on a file failed: the system's words, without the number that std puts behind them.
+    fn say_failure(self, path: &[u8], error: Error) {
+        match error.to_string(self.rt.alloc()) {
+            Ok(words) => {
+                let words = words.as_str();
+                let reason = words
+                    .rsplit_once(" (os error ")
+                    .map_or(words, |(reason, _)| reason);
+                self.say_of(path, reason);
+            }
+            Err(_) => self.say_of(path, error),
         }
-    };
-    match open_named(rt, &path[..n]) {
-        Ok(mut file) => read_file(rt, program, &mut file, &path[..n], room),
-        Err(error) => {
-            say_failure(rt, program, &path[..n], error);
-            FAILED
+    }
+
+    // Argument k, which need not be text.
+    fn argument(self, k: usize) -> io::Result<Vec<u8>> {
+        let mut path = vec![in self.rt.alloc(); 0; PATH]?;
+        let n = self.rt.arg(k, &mut path).map_err(why_no_argument)?;
+        path.truncate(n);
+        Ok(path)
+    }
+
+    // A line on standard error about the file that argument k names.
+    pub fn say_about(self, k: usize, words: impl Display + Drop) {
+        match self.argument(k) {
+            Ok(path) => self.say_of(&path, words),
+            Err(_) => self.say_of(b"", words),
         }
     }
-}
 
-// Whether there is an argument k, however long.
-fn has_argument(rt: &HostRuntime, k: usize) -> bool {
-    let mut path = [0u8; PATH];
-    match rt.arg(k, &mut path) {
-        Err(FillError::NotPresent) => false,
-        _ => true,
+    // Reads a file, at most so many bytes of it. std takes names that are UTF-8 alone. One more read tells whether a file that is longer can be read on.
+    fn read_file(self, path: &[u8], most: usize) -> io::Result<Vec<u8>>
+        ensures { IfOk result (λ bytes. vec_len bytes ≤ most) }
+    {
+        let Ok(name) = str::from_utf8(path) else {
+            return Err(Error::new(
+                ErrorKind::InvalidFilename,
+                "Invalid or incomplete multibyte or wide character",
+            ));
+        };
+        let mut front = fs::open(self.rt, name)?.take(most as u64);
+        let mut bytes = Vec::new(self.rt.alloc());
+        front.read_to_end(&mut bytes)?;
+        front.into_inner().read(&mut [0u8; 1])?;
+        // `take` gives no more, but `read_to_end` promises nothing of that.
+        bytes.truncate(most);
+        Ok(bytes)
     }
-}
 
-// Whether there are as many arguments as files are to be named; says on standard error how to use the program if not.
-pub fn names_files(rt: &HostRuntime, program: &[u8], files: &[u8], count: usize) -> bool {
-    if has_argument(rt, count) && !has_argument(rt, count.saturating_add(1)) {
-        return true;
+    // Reads the file that argument k names, at most so many bytes of it; says on standard error what went wrong.
+    pub fn read_named(self, k: usize, most: usize) -> Option<Vec<u8>>
+        ensures { IfSome result (λ bytes. vec_len bytes ≤ most) }
+    {
+        let path = match self.argument(k) {
+            Ok(path) => path,
+            Err(error) => {
+                self.say_failure(b"the file's name", error);
+                return None;
+            }
+        };
+        match self.read_file(&path, most) {
+            Ok(bytes) => Some(bytes),
+            Err(error) => {
+                self.say_failure(&path, error);
+                None
+            }
+        }
     }
-    say_error(rt, b"usage: ");
-    say_error(rt, program);
-    say_error(rt, b" ");
-    say_error(rt, files);
-    say_error(rt, b"\n");
-    false
-}
 
-// Reads the file that the one argument names; says on standard error what went wrong.
-pub fn read_argument(rt: &HostRuntime, program: &[u8], room: &mut [u8]) -> Input
-    ensures { IsPrefixLen result.count room.new }
-{
-    if !names_files(rt, program, b"FILE", 1) {
-        return FAILED;
+    // Whether there is an argument k, however long.
+    fn has_argument(self, k: usize) -> bool {
+        !matches!(self.rt.arg(k, &mut [0u8; 1]), Err(FillError::NotPresent))
     }
-    read_named(rt, program, 1, room)
+
+    // Whether there are as many arguments as files are to be named; says on standard error how to use the program if not.
+    pub fn names_files(self, files: &str, count: usize) -> bool {
+        if self.has_argument(count) && !self.has_argument(count.saturating_add(1)) {
+            return true;
+        }
+        let _ = eprintln!(self.rt; "usage: {} {files}", self.name);
+        false
+    }
+
+    // Reads the file that the one argument names; says on standard error what went wrong.
+    pub fn read_argument(self, most: usize) -> Option<Vec<u8>>
+        ensures { IfSome result (λ bytes. vec_len bytes ≤ most) }
+    {
+        if !self.names_files("FILE", 1) {
+            return None;
+        }
+        self.read_named(1, most)
+    }
 }

@@ -33,8 +33,9 @@ use Rattle.block.specs.declared.Header.{Header}
 use Rattle.records.specs.declared.table.Tally.{Tally}
 use Rattle.lists.specs.declared.Edit.{Edit}
 use Rattle.block.specs.declared.Layout.{Layout}
-use Rattle.change.specs.declared.inplace.Changed.{Changed}
-use Rattle.change.specs.declared.inplace.Changed.TheVariants.{To, NoRoom, Missing}
+use Rattle.std.specs.Prelude.{Result, Ok, Err}
+use Rattle.refusals.specs.declared.Refusal.{Refusal}
+use Rattle.refusals.specs.declared.Refusal.TheVariants.{Full}
 use Rattle.regions.proofs.Numbers.{Bytes}
 use Rattle.block.proofs.Reading.{good_header}
 use Rattle.block.proofs.Layouts.{small_current}
@@ -44,6 +45,7 @@ use Rattle.records.specs.Totals.{tally}
 use Rattle.block.specs.Checks.{tally_of, with_tally}
 use Rattle.records.specs.Steps.{Table, Whole}
 use Rattle.trim.specs.Steps.{Trimmed}
+use Rattle.std.proofs.lemmas.List.Elements.{All-nil, All-cons}
 use Rattle.change.specs.Steps.{AllTagged, OneTagged, Uniform, Vacant, Changeable, Stored, StoredIf, stored_answer, stored_bytes}
 use Rattle.range.specs.Steps.{Known, store_changed}
 use Rattle.lists.specs.Steps.{Editable}
@@ -54,13 +56,13 @@ use Rattle.range.proofs.Storing.{capacity_bound, scratch_room, span_part, span_r
 -- a legal list of the taken table has one tag
 taken_tagged : (xs : List Region) → legal Taken xs ≡ true → AllTagged (tag 0 0) xs
 unfolding legal legal_tag
-taken_tagged [] e = tt
+taken_tagged [] e = All-nil (λ (r : Region). r.tag ≡ tag 0 0)
 taken_tagged (r ∷ rs) e =
     let p = both (legal_tag Taken r.tag) (legal Taken rs) e in
     let q = both (eqb r.tag.flags 0) (eqb r.tag.node 0) p.0 in
     let f : r.tag.flags ≡ 0 = eqb-true r.tag.flags 0 q.0 in
     let n : r.tag.node ≡ 0 = eqb-true r.tag.node 0 q.1 in
-    (λ i. record { flags = f i; node = n i }, taken_tagged rs p.1)
+    All-cons (λ (x : Region). x.tag ≡ tag 0 0) r rs (λ i. record { flags = f i; node = n i }) (taken_tagged rs p.1)
 
 -- what the rules of a table know changes flags by a weight
 known_flag_bounded : (k : Kind) (c : Change) → Known k c → FlagBounded c
@@ -145,7 +147,7 @@ module _ (b : List ℕ) (g : good current b ≡ true) (k : Kind) (a e : ℕ) (ea
   range_vacant base hi size eq h v = rw list_is (λ x i j. v x i (omega arith))
 
   -- the answer for a list that is to stand in the table, stored, is the outcome
-  module _ (new : List Region) (x : List ℕ) (p : Changed) (w : Stored (take (e - a) (drop a b)) x new p) where
+  module _ (new : List Region) (x : List ℕ) (p : Result Tally Refusal) (w : Stored (take (e - a) (drop a b)) x new p) where
     room_is : length (take (e - a) (drop a b)) / 24 ≡ capacity current k
     room_is = omega (arith, span_room k a e b g ea ee)
 
@@ -156,11 +158,11 @@ module _ (b : List ℕ) (g : good current b ≡ true) (k : Kind) (a e : ℕ) (ea
     fit = leb (length new) (capacity current k)
 
     -- the list has room, and the answer is its tally, or it has none
-    answered : ((fit ≡ true) × (p ≡ To (tally new))) ⊎ ((fit ≡ false) × (p ≡ NoRoom))
+    answered : ((fit ≡ true) × (p ≡ Ok (tally new))) ⊎ ((fit ≡ false) × (p ≡ Err Full))
     unfolding stored_answer
     answered = go fit refl (rw room_is at w.answer)
       where
-        go : (t : Bool) → fit ≡ t → p ≡ cond t (To (tally new)) NoRoom → ((fit ≡ true) × (p ≡ To (tally new))) ⊎ ((fit ≡ false) × (p ≡ NoRoom))
+        go : (t : Bool) → fit ≡ t → p ≡ cond t (Ok (tally new)) (Err Full) → ((fit ≡ true) × (p ≡ Ok (tally new))) ⊎ ((fit ≡ false) × (p ≡ Err Full))
         go true f q = inl (f, q)
         go false f q = inr (f, q)
 
@@ -183,7 +185,7 @@ module _ (b : List ℕ) (g : good current b ≡ true) (k : Kind) (a e : ℕ) (ea
     unfolding store_changed
     list_stored bs o q = go answered
       where
-        go : ((fit ≡ true) × (p ≡ To (tally new))) ⊎ ((fit ≡ false) × (p ≡ NoRoom)) → o ≡ store current k new b
+        go : ((fit ≡ true) × (p ≡ Ok (tally new))) ⊎ ((fit ≡ false) × (p ≡ Err Full)) → o ≡ store current k new b
         go (inl v) = q ∙ rw v.1 (list_done bs v.0)
         go (inr v) = q ∙ rw v.1 (list_full v.0)
 
@@ -193,13 +195,13 @@ module _ (b : List ℕ) (g : good current b ≡ true) (k : Kind) (a e : ℕ) (ea
     finished = rw (list_is, eq)
 
     -- a changed range
-    pub range_stored : (x : List ℕ) (p : Changed)
+    pub range_stored : (x : List ℕ) (p : Result Tally Refusal)
         → Stored (take (e - a) (drop a b)) x (shortest (after (change c) base.0 hi.0 (at (read_regions t.count (take (e - a) (drop a b))))) top) p
         → Bytes b → (o : Outcome) → o ≡ store_changed h k p (take a b ++ (x ++ drop (e - a) (drop a b))) → o ≡ change_range current k c base.0 size b
     range_stored x p w bs o q = list_stored (changed c base.0 size (list_of (contents current b) k)) x p (rw finished at w) bs o q
 
     -- and if it is allowed
-    module _ (strict : Bool) (x : List ℕ) (p : Changed)
+    module _ (strict : Bool) (x : List ℕ) (p : Result Tally Refusal)
         (w : StoredIf (allowed strict base.0 hi.0 (read_regions t.count (take (e - a) (drop a b)))) (take (e - a) (drop a b)) x (shortest (after (change c) base.0 hi.0 (at (read_regions t.count (take (e - a) (drop a b))))) top) p) where
       pub range_stored_if : Bytes b → (o : Outcome) → o ≡ store_changed h k p (take a b ++ (x ++ drop (e - a) (drop a b)))
           → o ≡ unless (allowed strict base.0 (cut base.0 size) (list_of (contents current b) k)) 12 b (change_range current k c base.0 size b)
@@ -239,19 +241,3 @@ module _ (b : List ℕ) (g : good current b ≡ true) (a e : ℕ) (ea : a ≡ of
         room current (contents current b) (good_contents_lem current b g) Memory,
       ) in
       block_stored b bs g Memory a e ea ee (trimmed_list k.0 (contents current b).memory) x u y.count c r h eh y.total (ap (λ (v : Tally). v.total.0) q) l el o eo z ez
-
--- ---- a changed table's answer, as the code gives it
-
-module _ (own : Header) (k : Kind) (p : Changed) (b : List ℕ) where
-  pub stored_missing : p ≡ Missing → outcome 12 b ≡ store_changed own k p b
-  unfolding store_changed
-  stored_missing f = rw f
-
-  pub stored_full : p ≡ NoRoom → outcome 6 b ≡ store_changed own k p b
-  unfolding store_changed
-  stored_full f = rw f
-
-  pub stored_to : (y : Tally) → p ≡ To y → (l : Layout) → l ≡ current → (o : Header) → o ≡ with_tally own k y → (z : List ℕ) → z ≡ sets b 0 (header_bytes l o)
-      → outcome 0 z ≡ store_changed own k p b
-  unfolding store_changed
-  stored_to y f l el o eo z ez = rw (f, ez, el, eo)

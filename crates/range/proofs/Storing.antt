@@ -6,17 +6,11 @@ use mathlib.Core.List.{List, ◌++◌, append_assoc, append-nil}
 use native.Mathlib.Omega.{arith}
 use lib.ListN.{length, take, drop, length-append, length-drop, drop_of_length-le}
 use lib.Seq.{sets, take_at, drop_at, drop-drop, length-take-le, take-add}
-use Rattle.address.specs.declared.Address.{Address}
-use Rattle.address.specs.declared.CheckedAddress.{CheckedAddress}
-use Rattle.address.specs.declared.CheckedAddress.TheVariants.{At, Outside}
 use Rattle.address.specs.declared.Size.{Size}
-use Rattle.address.specs.Numbers.{address}
-use Rattle.address.proofs.Checked.{address_at, address_outside}
 use Rattle.regions.specs.declared.Kind.{Kind}
 use Rattle.regions.specs.declared.Kind.TheVariants.{Memory, Taken}
 use Rattle.regions.specs.declared.Region.{Region}
-use Rattle.regions.specs.Meaning.{at, total, top, top_is}
-use Rattle.regions.specs.Changes.{cut}
+use Rattle.regions.specs.Meaning.{at, total, top}
 use Rattle.regions.specs.Bytes.{table_bytes}
 use Rattle.regions.proofs.Numbers.{Bytes}
 use Rattle.block.specs.declared.Layout.{Layout}
@@ -118,14 +112,6 @@ start_now l k n e f = f ∙ ap (λ (x : Layout). offset x k) e
 
 pub span_end : (l : Layout) (k : Kind) (n m : ℕ) → l ≡ current → n ≡ offset l k → m ≡ capacity l k → n + 24 * m ≡ offset current k + 24 * capacity current k
 span_end l k n m e f g = rw (f, g, e)
-
-pub cut_past : (a : Address) (s : Size) (x : CheckedAddress) → x ≡ address (a.0 + s.0) → x ≡ Outside → 18446744073709551615 ≡ cut a.0 s.0
-cut_past a s x q e = omega (arith, address_outside (a.0 + s.0) x q e, top_is)
-
-pub cut_at : (a : Address) (s : Size) (x : CheckedAddress) (e : Address) → x ≡ address (a.0 + s.0) → x ≡ At e → e.0 ≡ cut a.0 s.0
-cut_at a s x e q f =
-    let m = address_at (a.0 + s.0) x e q f in
-    omega (arith, top_is)
 
 pub span_le : (k : Kind) (e : ℕ) (b : List ℕ) → good current b ≡ true → e ≡ offset current k + 24 * capacity current k → e ≤ length b
 unfolding offset capacity

@@ -1,5 +1,5 @@
 -- Which changes the rules of a table know, and what a changed table answers. Only inner contracts and proofs cite this module. Assumes nothing.
-use Rattle.std.specs.Prelude.{ℕ, ◌≡◌, List}
+use Rattle.std.specs.Prelude.{ℕ, ◌≡◌, List, Result, Ok, Err}
 use Rattle.std.proofs.lemmas.List.Edits.{sets}
 use Rattle.regions.specs.declared.Kind.{Kind}
 use Rattle.regions.specs.declared.Kind.TheVariants.{Memory, Taken}
@@ -9,8 +9,9 @@ use Rattle.regions.specs.Steps.{FlagBounded}
 use Rattle.block.specs.declared.Header.{Header}
 use Rattle.block.specs.Block.{current, header_bytes}
 use Rattle.block.specs.Checks.{with_tally}
-use Rattle.change.specs.declared.inplace.Changed.{Changed}
-use Rattle.change.specs.declared.inplace.Changed.TheVariants.{To, NoRoom, Missing}
+use Rattle.records.specs.declared.table.Tally.{Tally}
+use Rattle.refusals.specs.declared.Refusal.{Refusal}
+use Rattle.refusals.specs.Numbers.{number}
 use Rattle.range.specs.Outcomes.{Outcome, outcome, tag}
 
 -- a change that the rules of a table know: in memory any, in the taken table only of its one tag, 0, 0
@@ -21,8 +22,7 @@ Known Taken Clear = Unit {0}
 Known Taken (Mark w) = ⊥
 Known Taken (Unmark w) = ⊥
 
--- the number of each answer of a changed table, and the block's bytes then: the new tally in its header, or 6, or 12
-unfoldable pub store_changed : Header → Kind → Changed → List ℕ → Outcome
-store_changed h k (To t) b = outcome 0 (sets b 0 (header_bytes current (with_tally h k t)))
-store_changed h k NoRoom b = outcome 6 b
-store_changed h k Missing b = outcome 12 b
+-- the number of each answer of a changed table, and the block's bytes then: the new tally in its header, or as they were
+unfoldable pub store_changed : Header → Kind → Result Tally Refusal → List ℕ → Outcome
+store_changed h k (Ok t) b = outcome 0 (sets b 0 (header_bytes current (with_tally h k t)))
+store_changed h k (Err r) b = outcome (number r) b

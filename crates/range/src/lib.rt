@@ -12,12 +12,14 @@ ghost use Rattle.change.specs.Steps.{Vacant};
 ghost use Rattle.range.specs.Steps.{Known, store_changed};
 ghost use Rattle.block.specs.Block.{current, offset, capacity, list_of, with_list, block_bytes, contents, good};
 ghost use Rattle.range.specs.Outcomes.{outcome, unless, change_range};
+ghost use Rattle.refusals.specs.Numbers.{answered};
 
-use address::{Address, CheckedAddress, Size};
+use address::{Address, Size};
 use block::{Header, current_layout, get_header, put_header};
 use change::gap::{change_table, fill_table};
-use change::inplace::Changed;
 use lists::Edit;
+use records::table::Tally;
+use refusals::Refusal;
 use regions::{Change, Kind, Tag};
 use trim::trim_table;
 
@@ -43,28 +45,27 @@ pub fn table_span(kind: Kind) -> Span
 pub fn cut_end(base: Address, size: Size) -> Address
     ensures { result.0 ≡ cut base.0 size.0 }
 {
-    let CheckedAddress::At(end) = base.plus(size) else {
-        return Address(0xFFFF_FFFF_FFFF_FFFF);
-    };
-    end
+    Address(base.0.saturating_add(size.0))
 }
 
-// Writes a changed table's tally into the header, or answers 6 or 12.
-pub fn store_changed(block: &mut [u8], own: Header, kind: Kind, changed: Changed) -> u32
+// Writes a changed table's tally into the header, or answers why the table is not changed.
+#[tactic(auto, unfolding(crate::specs::Steps::store_changed))]
+pub fn store_changed(
+    block: &mut [u8],
+    own: Header,
+    kind: Kind,
+    changed: Result<Tally, Refusal>,
+) -> Result<(), Refusal>
     requires { 80 ≤ length block.old }
-    ensures { outcome result block.new ≡ store_changed own kind changed block.old }
+    ensures { outcome (answered result) block.new ≡ store_changed own kind changed block.old }
 {
-    match changed {
-        Changed::To(tally) => {
-            put_header(block, current_layout(), own.with_tally(kind, tally));
-            0
-        }
-        Changed::NoRoom => 6,
-        Changed::Missing => 12,
-    }
+    let tally = changed?;
+    put_header(block, current_layout(), own.with_tally(kind, tally));
+    Ok(())
 }
 
-// Changes a range of a table, or answers 6; if it is strict, 12 where the table has not every address of the range.
+// Changes a range of a table that has room; if it is strict, only where the table has every address of the range.
+// `strict`, base and size as the definitions `allowed` and `change_range` have them.
 pub fn change_range(
     block: &mut [u8],
     kind: Kind,
@@ -72,13 +73,11 @@ pub fn change_range(
     strict: bool,
     base: Address,
     size: Size,
-) -> u32
+) -> Result<(), Refusal>
     requires { (good current block.old ≡ true) × (Known kind change × (strict ≡ true → kind ≡ Taken)) }
-    ensures { outcome result block.new ≡ unless (allowed strict base.0 (cut base.0 size.0) (list_of (contents current block.old) kind)) 12 block.old (change_range current kind change base.0 size.0 block.old) }
+    ensures { outcome (answered result) block.new ≡ unless (allowed strict base.0 (cut base.0 size.0) (list_of (contents current block.old) kind)) 12 block.old (change_range current kind change base.0 size.0 block.old) }
 {
     let span = table_span(kind);
-    let start = span.start;
-    let end = span.end;
     let own = get_header(block);
     let tally = own.tally(kind);
     let edit = Edit {
@@ -86,22 +85,26 @@ pub fn change_range(
         lo: base,
         hi: cut_end(base, size),
     };
-    let changed = change_table(&mut block[start..end], tally, strict, edit);
+    let changed = change_table(&mut block[span.start..span.end], tally, strict, edit);
     store_changed(block, own, kind, changed)
 }
 
-// Puts a range of which a table has no address into it, with a tag, or answers 6.
-pub fn fill_range(block: &mut [u8], kind: Kind, tag: Tag, base: Address, size: Size) -> u32
+// Puts a range of which a table has no address into it, with a tag, if the table has room.
+pub fn fill_range(
+    block: &mut [u8],
+    kind: Kind,
+    tag: Tag,
+    base: Address,
+    size: Size,
+) -> Result<(), Refusal>
     requires { (good current block.old ≡ true) × ((0 < size.0) × ((base.0 + size.0 ≤ top) × Vacant base.0 (base.0 + size.0) (list_of (contents current block.old) kind))) }
-    ensures { outcome result block.new ≡ change_range current kind (Fill tag) base.0 size.0 block.old }
+    ensures { outcome (answered result) block.new ≡ change_range current kind (Fill tag) base.0 size.0 block.old }
 {
     let span = table_span(kind);
-    let start = span.start;
-    let end = span.end;
     let own = get_header(block);
     let tally = own.tally(kind);
     let hi = cut_end(base, size);
-    let changed = fill_table(&mut block[start..end], tally, base, hi, tag);
+    let changed = fill_table(&mut block[span.start..span.end], tally, base, hi, tag);
     store_changed(block, own, kind, changed)
 }
 
@@ -111,10 +114,8 @@ pub fn trim_memory(block: &mut [u8], align: Size)
     ensures { block.new ≡ block_bytes current (with_list (contents current block.old) Memory (trimmed_list align.0 (contents current block.old).memory)) }
 {
     let span = table_span(Kind::Memory);
-    let start = span.start;
-    let end = span.end;
     let own = get_header(block);
     let tally = own.tally(Kind::Memory);
-    let new = trim_table(&mut block[start..end], tally, align);
+    let new = trim_table(&mut block[span.start..span.end], tally, align);
     put_header(block, current_layout(), own.with_tally(Kind::Memory, new));
 }

@@ -1,10 +1,8 @@
 -- Where a range begins among the records: the first records that end at or below an address. Assumes nothing.
-use Rattle.std.proofs.Common.{◌≡◌, ℕ, zero, suc, ◌+◌, ◌-◌, ◌*◌, ◌<◌, ◌≤◌, Bool, true, false, cond, leb, List, [], ◌∷◌, length, take, drop, sym, refl, ap, ◌∙◌, le_of_suc-le-suc, not-suc-le-zero, mul-suc, arith, drop-drop, le-leb, leb-true}
+use Rattle.std.proofs.Common.{◌≡◌, ℕ, zero, suc, ◌+◌, ◌-◌, ◌*◌, ◌<◌, ◌≤◌, Bool, true, false, cond, leb, List, [], ◌∷◌, length, take, drop, sym, refl, ap, ◌∙◌, le_of_suc-le-suc, not-suc-le-zero, mul-suc, arith, drop-drop, le-leb, leb-true, Option, Some, None}
 use native.Mathlib.Nat.{sub-zero}
 use borrow.Author.Tests.{lt-leb}
 use Rattle.address.specs.declared.Address.{Address}
-use Rattle.address.specs.declared.CheckedAddress.{CheckedAddress}
-use Rattle.address.specs.declared.CheckedAddress.TheVariants.{At, Outside}
 use Rattle.address.specs.Numbers.{address}
 use Rattle.address.proofs.Checked.{address_at, address_outside}
 use Rattle.regions.specs.declared.Region.{Region}
@@ -17,11 +15,11 @@ use Rattle.records.specs.Steps.{ending_by}
 
 -- ---- a look at one record
 
-module _ (s r : Region) (e : r ≡ s) (a : Address) (x : CheckedAddress) (q : x ≡ address (end r)) where
-  pub look_past : x ≡ Outside → a.0 < 18446744073709551616 → false ≡ leb (end s) a.0
+module _ (s r : Region) (e : r ≡ s) (a : Address) (x : Option Address) (q : x ≡ address (end r)) where
+  pub look_past : x ≡ None → a.0 < 18446744073709551616 → false ≡ leb (end s) a.0
   look_past o k = rw (← e) (sym (lt-leb (end r) a.0 (omega (arith, address_outside (end r) x q o))))
 
-  pub look_told : (o : Address) → x ≡ At o → leb o.0 a.0 ≡ leb (end s) a.0
+  pub look_told : (o : Address) → x ≡ Some o → leb o.0 a.0 ≡ leb (end s) a.0
   look_told o p = rw ((address_at (end r) x o q p).0, e)
 
 -- ---- parts of a run of records

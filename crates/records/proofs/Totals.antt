@@ -2,9 +2,6 @@
 use Rattle.std.proofs.Common.{◌≡◌, ℕ, ◌+◌, ◌-◌, ◌*◌, ◌<◌, ◌≤◌, true, List, ◌∷◌, drop, ap, arith}
 use native.Mathlib.Nat.{sub-zero}
 use Rattle.address.specs.declared.Size.{Size}
-use Rattle.address.specs.declared.CheckedSize.{CheckedSize}
-use Rattle.address.specs.Numbers.{size}
-use Rattle.address.proofs.Checked.{size_of, size_outside}
 use Rattle.regions.specs.declared.Region.{Region}
 use Rattle.regions.specs.declared.State.TheVariants.{Absent}
 use Rattle.regions.specs.Meaning.{at, total, top, top_is}
@@ -14,7 +11,6 @@ use Rattle.regions.proofs.Rises.{rises-Rises}
 use Rattle.regions.proofs.Count.{sizes, total_le}
 use Rattle.regions.proofs.Good.{total_is_sizes}
 use Rattle.regions.proofs.Records.{read_regions_rest, read_regions_end}
-use Rattle.address.specs.declared.CheckedSize.TheVariants as Size
 
 module _ (l : List ℕ) (n : ℕ) (rising : rises 0 Absent top (read_regions n l) ≡ true) where
   sizes_total : total (at (read_regions n l)) top ≡ sizes (read_regions n l)
@@ -30,15 +26,15 @@ module _ (l : List ℕ) (n : ℕ) (rising : rises 0 Absent top (read_regions n l
         let z : sizes (read_regions (n - i) (drop (24 * i) l)) ≡ 0 = rw (read_regions_end i n (drop (24 * i) l) h) in
         omega (arith, sizes_total)
 
-    module _ (r : Region) (h : i < n) (e : r ≡ read_region (drop (24 * i) l)) (x : CheckedSize) (q : x ≡ size (sum.0 + r.size.0)) where
+    module _ (r : Region) (h : i < n) (e : r ≡ read_region (drop (24 * i) l)) where
       next : sum.0 + r.size.0 + sizes (read_regions (n - (i + 1)) (drop (24 * (i + 1)) l)) ≡ sizes (read_regions n l)
       unfolding sizes
       next =
           let s : read_regions (n - i) (drop (24 * i) l) ≡ r ∷ read_regions (n - (i + 1)) (drop (24 * (i + 1)) l) = rw e (read_regions_rest i n l h) in
           omega (arith, ap sizes s)
 
-      pub sum_past : x ≡ Size.Outside → sum.0 ≡ total (at (read_regions n l)) top
-      sum_past f = absurd (omega (arith, next, size_outside (sum.0 + r.size.0) x q f, sizes_total, total_le (at (read_regions n l)) top, top_is))
+      pub sum_fits : sum.0 + r.size.0 < 18446744073709551616
+      sum_fits = omega (arith, next, sizes_total, total_le (at (read_regions n l)) top, top_is)
 
-      pub sum_next : (s : Size) → x ≡ Size.Of s → s.0 + sizes (read_regions (n - (i + 1)) (drop (24 * (i + 1)) l)) ≡ sizes (read_regions n l)
-      sum_next s f = omega (arith, next, (size_of (sum.0 + r.size.0) x s q f).0)
+      pub sum_next : (s : Size) → s.0 ≡ sum.0 + r.size.0 → s.0 + sizes (read_regions (n - (i + 1)) (drop (24 * (i + 1)) l)) ≡ sizes (read_regions n l)
+      sum_next s f = omega (arith, next, f)

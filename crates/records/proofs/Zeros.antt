@@ -1,9 +1,7 @@
 -- Zero bytes, one at a time and as many as make a number. Assumes nothing.
-use Rattle.std.proofs.Common.{◌≡◌, ℕ, zero, suc, ◌+◌, ◌-◌, ◌*◌, ◌<◌, ◌≤◌, Bool, true, false, ◌&&◌, eqb, List, [], ◌∷◌, ◌++◌, length, get_or, take, drop, set, replicate, sym, refl, ap, ◌∙◌, ap₂, append_assoc, append-nil, le_of_suc-le-suc, not-suc-le-zero, add-one, arith, length-append, length-drop, take-append-drop, drop_of_length-le, length-take-le, drop-cons, drop-drop, take-add, eq-eqb, ne_eqb, eqb-true}
+use Rattle.std.proofs.Common.{◌≡◌, ℕ, zero, suc, ◌+◌, ◌-◌, ◌*◌, ◌<◌, ◌≤◌, Bool, true, false, ◌&&◌, eqb, List, [], ◌∷◌, ◌++◌, length, take, drop, replicate, sym, refl, ap, ◌∙◌, ap₂, le_of_suc-le-suc, not-suc-le-zero, arith, length-drop, take-append-drop, drop_of_length-le, drop-drop, take-add, eq-eqb, ne_eqb, eqb-true}
+use Rattle.std.proofs.lemmas.List.{drop-replicate}
 use mathlib.Core.Bool.{and-true, and-false}
-use native.Mathlib.Nat.{sub-zero}
-use lib.ListN.{length-replicate, replicate-append-replicate}
-use lib.Seq.{set_at}
 use lib.Bits.{bit_or, or_add_and, and_le_l, and_le_r}
 use borrow.Author.Tests.{eqb-false}
 use Rattle.address.proofs.Tests.{both}
@@ -34,20 +32,6 @@ zeros_number (suc k) (b ∷ l) h = rw (sum_zero b (number k l), zeros_number k l
     three false y z = refl
 
 module _ (l : List ℕ) (at i : ℕ) (inv : all_zeros (drop at l) ≡ all_zeros (drop i l)) where
-  pub zeros_end : length l ≤ i → true ≡ all_zeros (drop at l)
-  unfolding all_zeros
-  zeros_end h = sym (inv ∙ ap all_zeros (drop_of_length-le l h))
-
-  step : i < length l → all_zeros (drop at l) ≡ (eqb (get_or l i 0) 0 && all_zeros (drop (i + 1) l))
-  unfolding all_zeros
-  step h = inv ∙ ap all_zeros (drop-cons l i 0 h) ∙ rw add-one
-
-  pub zeros_hit : i < length l → (get_or l i 0 ≡ 0 → ⊥) → false ≡ all_zeros (drop at l)
-  zeros_hit h z = rw (step h, ne_eqb (get_or l i 0) 0 z)
-
-  pub zeros_again : i < length l → get_or l i 0 ≡ 0 → all_zeros (drop at l) ≡ all_zeros (drop (i + 1) l)
-  zeros_again h z = rw (step h, eq-eqb (get_or l i 0) 0 z)
-
   step8 : 8 ≤ length l - i → all_zeros (drop at l) ≡ (eqb (number 8 (drop i l)) 0 && all_zeros (drop (i + 8) l))
   step8 h =
       let n : 8 ≤ length (drop i l) = simp length-drop (omega arith) in
@@ -166,31 +150,5 @@ unfolding all_zeros
 replicate_zeros zero = refl
 replicate_zeros (suc n) = replicate_zeros n
 
--- ---- zeros written from a place on: the list as it was before that place, zeros up to i, and the rest as it was
-
-module _ (t l : List ℕ) (at i : ℕ) (inv : t ≡ take at l ++ (replicate (i - at) 0 ++ drop i l)) (low : at ≤ i) where
-  pub zero_more : i < length l → set t i 0 ≡ take at l ++ (replicate (i + 1 - at) 0 ++ drop (i + 1) l)
-  zero_more h =
-      let k : ℕ = i - at in
-      let p : List ℕ = take at l ++ replicate k 0 in
-      let n : length p ≡ i =
-      length-append (take at l) (replicate k 0) ∙ omega (arith, length-take-le at l (omega arith), length-replicate {A = ℕ} k 0) in
-      let e : t ≡ p ++ (get_or l i 0 ∷ drop (suc i) l) = inv ∙ sym (append_assoc (take at l) (replicate k 0) (drop i l)) ∙ ap (λ (x : List ℕ). p ++ x) (drop-cons l i 0 h) in
-      let f : i + 1 - at ≡ k + 1 = omega arith in
-      let g : replicate {A = ℕ} (k + 1) 0 ≡ replicate k 0 ++ (0 ∷ []) = sym (replicate-append-replicate k 1 0) in
-      rw (e, set_at p (get_or l i 0) (drop (suc i) l) 0 i n, f, g, add-one, append_assoc, append_assoc)
-
-  pub zero_end : i ≤ length l → length l ≤ i → t ≡ take at l ++ replicate (length l - at) 0
-  zero_end h k =
-      let e : i ≡ length l = omega arith in
-      rw (inv, drop_of_length-le l k, append-nil, e)
-
-pub zero_none : (l : List ℕ) (at : ℕ) → l ≡ take at l ++ (replicate (at - at) 0 ++ drop at l)
-zero_none l at =
-    let e : at - at ≡ 0 = omega arith in
-    rw e (sym (take-append-drop at l))
-
 pub drop_zeros : (k n : ℕ) → drop k (replicate {A = ℕ} n 0) ≡ replicate (n - k) 0
-drop_zeros zero n = rw sub-zero
-drop_zeros (suc k) zero = let e : 0 - suc k ≡ 0 = omega arith in rw e
-drop_zeros (suc k) (suc n) = let e : suc n - suc k ≡ n - k = omega arith in drop_zeros k n ∙ rw e
+drop_zeros k n = drop-replicate k n 0

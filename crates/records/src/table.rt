@@ -7,59 +7,143 @@ ghost use Rattle.regions.specs.Lists.{rises};
 ghost use Rattle.records.specs.Checks.{all_zeros, checked_list, checked_table};
 ghost use Rattle.records.specs.Steps.{Table, Halved, ending_by};
 
-use address::{Address, CheckedAddress, CheckedSize, Size};
+use address::{Address, Size};
 use regions::bytes::{get_region, get_u64};
-use regions::{Kind, State};
+use regions::{Kind, Region, State};
 
 // How many records a table has, and how many addresses they say.
+// It goes beside its table's bytes, not in one value with them: it stands in the header, and a change answers a new one, or why there is none.
 #[derive(Clone, Copy)]
 pub struct Tally {
     pub count: u32,
     pub total: Size,
 }
 
-// What the check of a table answers: its total, or that it is not good.
+// The first `count` records of these bytes.
+// The count comes from C's header. That they are a good table stays in the contracts: `check_table` takes bytes of which nothing is known.
 #[derive(Clone, Copy)]
-pub enum Checked {
-    Total(Size),
-    Bad,
+pub struct Records<'a> {
+    pub bytes: &'a [u8],
+    pub count: usize,
 }
 
-// Checks the first `count` records: each legal, each fitting after the one before.
-pub fn check_records(t: &[u8], count: usize, kind: Kind) -> Checked
-    requires { 24 * count ≤ length t.now }
-    ensures { result ≡ checked_list kind (read_regions count t.now) }
-{
-    let mut total = 0;
-    let mut low = 0;
-    let mut below = State::Absent;
-    let mut i = 0;
-    while i < count {
-        let r = get_region(t, 24 * i);
-        let tag = r.tag;
-        let base = r.base.0;
-        let size = r.size.0;
-        let end = std::num::wrapping_add_u64(base, size);
-        if !tag.legal(kind) {
-            return Checked::Bad;
-        }
-        if end <= base {
-            return Checked::Bad;
-        }
-        if base <= low {
-            if base < low {
-                return Checked::Bad;
-            }
-            if below.is(tag) {
-                return Checked::Bad;
-            }
-        }
-        total += size;
-        low = end;
-        below = State::Present(tag);
-        i += 1;
+// Where a range begins among the records, and how many of them were looked at. A counter of the code, since a body has no ghost variables.
+#[derive(Clone, Copy)]
+struct Placed {
+    at: usize,
+    looks: usize,
+}
+
+impl<'a> Records<'a> {
+    // Record `i`.
+    pub fn get(self, i: usize) -> Region
+        requires { 24 * i + 24 ≤ length self.bytes.now }
+        ensures { result ≡ read_region (drop (24 * i) self.entry.bytes.now) }
+    {
+        get_region(self.bytes, 24 * i)
     }
-    Checked::Total(Size(total))
+
+    // Whether record `i` ends at or below `a`: one look at a record.
+    pub fn ends_by(self, i: usize, a: Address) -> bool
+        requires { 24 * i + 24 ≤ length self.bytes.now }
+        ensures { result ≡ nat_le (end_of (read_region (drop (24 * i) self.entry.bytes.now))) a.0 }
+    {
+        let r = self.get(i);
+        let Some(end) = r.end() else {
+            return false;
+        };
+        end <= a
+    }
+
+    // How many of the first records end at or below `a`, by halving: the records are bytes that C lends, no slice that the library could search.
+    fn halve(self, a: Address) -> Placed
+        requires { (24 * self.count ≤ length self.bytes.now) × (rises 0 Absent top (read_regions self.count self.bytes.now) ≡ true) }
+        ensures { (result.at ≡ ending_by a.0 (read_regions self.entry.count self.entry.bytes.now)) × Halved self.entry.count result.looks }
+    {
+        let mut low = 0;
+        let mut high = self.count;
+        let mut looks = 0;
+        while low < high {
+            let mid = low + (high - low) / 2;
+            if self.ends_by(mid, a) {
+                low = mid + 1;
+            } else {
+                high = mid;
+            }
+            looks += 1;
+        }
+        Placed { at: low, looks }
+    }
+
+    // How many of the first records end at or below `a`: where a range that begins at `a` begins among them.
+    pub fn place(self, a: Address) -> usize
+        requires { Table self.bytes.now self.count }
+        ensures { result ≡ ending_by a.0 (read_regions self.entry.count self.entry.bytes.now) }
+    {
+        self.halve(a).at
+    }
+
+    // How many addresses they say.
+    pub fn total(self) -> Size
+        requires { (24 * self.count ≤ length self.bytes.now) × (rises 0 Absent top (read_regions self.count self.bytes.now) ≡ true) }
+        ensures { result.0 ≡ total (at (read_regions self.entry.count self.entry.bytes.now)) top }
+    {
+        let mut sum = Size(0);
+        for i in 0..self.count {
+            let r = self.get(i);
+            sum = sum.add(r.size);
+        }
+        sum
+    }
+
+    // The total, if each record is legal and fits after the one before.
+    pub fn check(self, kind: Kind) -> Option<Size>
+        requires { 24 * self.count ≤ length self.bytes.now }
+        ensures { result ≡ checked_list kind (read_regions self.entry.count self.entry.bytes.now) }
+    {
+        let mut total = 0;
+        let mut low = 0;
+        let mut below = State::Absent;
+        for i in 0..self.count {
+            let r = self.get(i);
+            let tag = r.tag;
+            let base = r.base.0;
+            let size = r.size.0;
+            let end = base.wrapping_add(size);
+            if !tag.legal(kind) {
+                return None;
+            }
+            if end <= base {
+                return None;
+            }
+            if base <= low {
+                if base < low {
+                    return None;
+                }
+                if below.is(tag) {
+                    return None;
+                }
+            }
+            total += size;
+            low = end;
+            below = State::Present(tag);
+        }
+        Some(Size(total))
+    }
+
+    // The total of a whole table: these records, and zeros behind them.
+    pub fn check_table(self, kind: Kind) -> Option<Size>
+        ensures { result ≡ checked_table kind self.entry.count self.entry.bytes.now }
+    {
+        if self.bytes.len() / 24 < self.count {
+            return None;
+        }
+        let total = self.check(kind)?;
+        if !all_zero(self.bytes, 24 * self.count) {
+            return None;
+        }
+        Some(total)
+    }
 }
 
 // Whether every byte from `at` on is 0.
@@ -67,17 +151,10 @@ fn rest_zero(t: &[u8], at: usize) -> bool
     requires { at ≤ length t.now }
     ensures { result ≡ all_zeros (drop at t.now) }
 {
-    let mut i = at;
-    while i < t.len() {
-        if t[i] != 0 {
-            return false;
-        }
-        i += 1;
-    }
-    true
+    t[at..].iter().all(|b| *b == 0)
 }
 
-// The same, eight bytes at a time as far as they go.
+// The same, eight bytes at a time as far as they go: one at a time takes six times as long. An index by hand, for the bytes left over are tested too.
 fn few_zero(t: &[u8], at: usize) -> bool
     requires { at ≤ length t.now }
     ensures { result ≡ all_zeros (drop at t.now) }
@@ -109,7 +186,7 @@ fn any16(t: &[u8], i: usize) -> u64
 }
 
 // Whether every byte from `at` on is 0, 128 at a time from the end, and what is left with the first 128: a table ends at a multiple of 16, wherever its
-// records end.
+// records end. An index by hand: the library has no chunks from the end.
 pub fn all_zero(t: &[u8], at: usize) -> bool
     requires { at ≤ length t.now }
     ensures { result ≡ all_zeros (drop at t.now) }
@@ -128,32 +205,12 @@ pub fn all_zero(t: &[u8], at: usize) -> bool
     few_zero(t, at)
 }
 
-// Checks a whole table: `count` records, and zeros behind them.
-pub fn check_table(t: &[u8], count: usize, kind: Kind) -> Checked
-    ensures { result ≡ checked_table kind count t.now }
-{
-    if t.len() / 24 < count {
-        return Checked::Bad;
-    }
-    let Checked::Total(total) = check_records(t, count, kind) else {
-        return Checked::Bad;
-    };
-    if !all_zero(t, 24 * count) {
-        return Checked::Bad;
-    }
-    Checked::Total(total)
-}
-
 // Writes zeros from `at` on.
 pub fn put_zeros(t: &mut [u8], at: usize)
     requires { at ≤ length t.old }
     ensures { t.new ≡ take at t.old ++ replicate (length t.old - at) 0 }
 {
-    let mut i = at;
-    while i < t.len() {
-        t[i] = 0;
-        i += 1;
-    }
+    t[at..].fill(0);
 }
 
 // Copies the first `m` bytes.
@@ -161,76 +218,5 @@ pub fn copy_front(dst: &mut [u8], src: &[u8], m: usize)
     requires { (m ≤ length dst.old) × (m ≤ length src.now) }
     ensures { dst.new ≡ take m src.now ++ drop m dst.old }
 {
-    let mut i = 0;
-    while i < m {
-        dst[i] = src[i];
-        i += 1;
-    }
-}
-
-// Whether record `i` ends at or below `a`: one look at a record.
-pub fn ends_by(t: &[u8], i: usize, a: Address) -> bool
-    requires { 24 * i + 24 ≤ length t.now }
-    ensures { result ≡ nat_le (end_of (read_region (drop (24 * i) t.now))) a.0 }
-{
-    let r = get_region(t, 24 * i);
-    let CheckedAddress::At(end) = r.end() else {
-        return false;
-    };
-    end.0 <= a.0
-}
-
-// Where a range begins among the records, and how many of them were looked at.
-#[derive(Clone, Copy)]
-struct Placed {
-    at: usize,
-    looks: usize,
-}
-
-// How many of the first records end at or below `a`, by halving.
-fn halve(t: &[u8], count: usize, a: Address) -> Placed
-    requires { (24 * count ≤ length t.now) × (rises 0 Absent top (read_regions count t.now) ≡ true) }
-    ensures { (result.at ≡ ending_by a.0 (read_regions count t.now)) × Halved count result.looks }
-{
-    let mut low = 0;
-    let mut high = count;
-    let mut looks = 0;
-    while low < high {
-        let mid = low + (high - low) / 2;
-        if ends_by(t, mid, a) {
-            low = mid + 1;
-        } else {
-            high = mid;
-        }
-        looks += 1;
-    }
-    Placed { at: low, looks }
-}
-
-// How many of the first records end at or below `a`: where a range that begins at `a` begins among them.
-pub fn place(t: &[u8], count: usize, a: Address) -> usize
-    requires { Table t.now count }
-    ensures { result ≡ ending_by a.0 (read_regions count t.now) }
-{
-    let p = halve(t, count, a);
-    p.at
-}
-
-// How many addresses the first `n` records say.
-pub fn total_of(t: &[u8], n: usize) -> Size
-    requires { (24 * n ≤ length t.now) × (rises 0 Absent top (read_regions n t.now) ≡ true) }
-    ensures { result.0 ≡ total (at (read_regions n t.now)) top }
-{
-    let mut sum = Size(0);
-    let mut i = 0;
-    while i < n {
-        let r = get_region(t, 24 * i);
-        let size = r.size;
-        let CheckedSize::Of(more) = sum.plus(size) else {
-            return sum;
-        };
-        sum = more;
-        i += 1;
-    }
-    sum
+    dst[..m].copy_from_slice(&src[..m]);
 }

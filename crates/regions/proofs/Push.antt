@@ -9,8 +9,8 @@ use native.Mathlib.Numerals.{add-one}
 use lib.Dec.{eqb}
 use borrow.Author.Tests.{eq-eqb, ne_eqb, eqb-true}
 use Rattle.address.specs.declared.Address.{Address}
-use Rattle.address.specs.declared.CheckedAddress.{CheckedAddress}
-use Rattle.address.specs.declared.CheckedAddress.TheVariants.{At, Outside}
+use Rattle.std.specs.Option.{option_eq}
+use Rattle.std.specs.Prelude.{Option, Some, None}
 use Rattle.address.specs.Numbers.{address}
 use Rattle.address.proofs.Tests.{both, and, zero_not_one}
 use Rattle.address.proofs.Checked.{address_at, address_outside}
@@ -44,22 +44,12 @@ joins_no r c t e p q = let f = joins_yes r c t p q in absurd (zero_not_one cc)
 
 -- the code's test, answer by answer
 
-module _ (r : Region) (c : Address) (t : Tag) (x : CheckedAddress) (q : x ≡ address (end r)) where
-  pub joins_past : c.0 < 18446744073709551616 → x ≡ Outside → false ≡ joins r c.0 t
-  joins_past h e =
-      let d : end r ≡ c.0 → ⊥ = λ f. omega (arith, address_outside (end r) x q e) in
-      rw (ne_eqb (end r) c.0 d)
-
-  module _ (e : Address) (f : x ≡ At e) where
-    pub joins_apart : (e.0 ≡ c.0 → ⊥) → false ≡ joins r c.0 t
-    joins_apart n =
-        let d : end r ≡ c.0 → ⊥ = λ g. n ((address_at (end r) x e q f).0 ∙ g) in
-        rw (ne_eqb (end r) c.0 d)
-
-    pub joins_tag : (b : Bool) → e.0 ≡ c.0 → b ≡ same_tag r.tag t → b ≡ joins r c.0 t
-    joins_tag b g h =
-        let d : end r ≡ c.0 = sym (address_at (end r) x e q f).0 ∙ g in
-        rw (eq-eqb (end r) c.0 d) h
+-- the end, as an address or none, is an address where the region ends there
+pub ends_at : (eq : Address → Address → Bool) → ((a b : Address) → eq a b ≡ eqb a.0 b.0) → (r : Region) (c : Address) (x : Option Address) → x ≡ address (end r) → c.0 < 18446744073709551616 → option_eq eq x (Some c) ≡ eqb (end r) c.0
+ends_at eq l r c None q h =
+    let d : end r ≡ c.0 → ⊥ = λ f. omega (arith, address_outside (end r) None q refl) in
+    sym (ne_eqb (end r) c.0 d)
+ends_at eq l r c (Some e) q h = rw (l e c, (address_at (end r) (Some e) e q refl).0)
 
 -- ---- join twice is join once
 

@@ -6,24 +6,12 @@ ghost use Rattle.regions.specs.Bytes.{number, bytes, read_region, region_bytes};
 use crate::{Region, Tag};
 use address::{Address, Size};
 
-// The byte at `at`, as a wider number.
-fn byte_at(s: &[u8], at: usize) -> u32
-    requires { at < length s.now }
-    ensures { (result ≡ get_or s.now at 0) × (result < 256) }
-{
-    s[at] as u32
-}
-
 // The u32 at `at`.
 pub fn get_u32(s: &[u8], at: usize) -> u32
     requires { at + 4 ≤ length s.now }
     ensures { result ≡ number 4 (drop at s.now) }
 {
-    let a = byte_at(s, at);
-    let b = byte_at(s, at + 1);
-    let c = byte_at(s, at + 2);
-    let d = byte_at(s, at + 3);
-    a + b * 256 + c * 65536 + d * 16777216
+    u32::from_le_bytes([s[at], s[at + 1], s[at + 2], s[at + 3]])
 }
 
 // The u64 at `at`.

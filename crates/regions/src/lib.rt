@@ -8,12 +8,13 @@ ghost use Rattle.regions.specs.Changes.{has as has_flag, one_flag, change, set_f
 ghost use Rattle.regions.specs.Steps.{FlagBounded, FlagsBounded};
 ghost use Rattle.regions.specs.Lists.{is as is_tag, legal_tag};
 
-use address::{Address, CheckedAddress, Size};
+use address::{Address, Size};
 
 pub mod bytes;
 
 // What is told of an address beside its being there: flags (a sum of 1 hotplug, 2 mirror, 4 no-map) and a node.
-#[derive(Clone, Copy)]
+// Both are the numbers of a record in C's table, right or not: `legal` tells which may stand there.
+#[derive(Clone, Copy, PartialEq, Eq)]
 pub struct Tag {
     pub flags: u32,
     pub node: u32,
@@ -35,7 +36,9 @@ pub struct Run {
 }
 
 // How an address stands in a table.
-#[derive(Clone, Copy)]
+// Not an Option<Tag>: document 01's two cases by their names, which the definitions and theorems of specs/ (Meaning, Changes, Lists) speak of; None would not
+// say that an address is absent.
+#[derive(Clone, Copy, PartialEq, Eq)]
 pub enum State {
     Absent,
     Present(Tag),
@@ -49,6 +52,7 @@ pub enum Kind {
 }
 
 // What a command makes of an address of its range: add and reserve fill, remove and free clear, mark and unmark set and clear a flag.
+// The flag is C's number of it, which `one_flag` has tested.
 #[derive(Clone, Copy)]
 pub enum Change {
     Fill(Tag),
@@ -69,25 +73,10 @@ pub fn has(w: u32, f: u32) -> bool
 pub fn one_flag(w: u32) -> bool
     ensures { result ≡ one_flag w }
 {
-    if w == 1 {
-        return true;
-    }
-    if w == 2 {
-        return true;
-    }
-    w == 4
+    matches!(w, 1 | 2 | 4)
 }
 
 impl Tag {
-    pub fn same(self, other: Tag) -> bool
-        ensures { result ≡ same_tag self other }
-    {
-        if self.flags != other.flags {
-            return false;
-        }
-        self.node == other.node
-    }
-
     // With the flag of weight `w`.
     pub fn with_flag(self, w: u32) -> Tag
         requires { (0 < w) × ((w ≤ 4) × (self.flags ≤ 7)) }
@@ -117,22 +106,13 @@ impl Tag {
     }
 
     // Whether the tag may stand in the table.
+    #[tactic(auto, unfolding(crate::specs::Lists::legal_tag))]
     pub fn legal(self, kind: Kind) -> bool
         ensures { result ≡ legal_tag kind self }
     {
         match kind {
-            Kind::Memory => {
-                if 7 < self.flags {
-                    return false;
-                }
-                self.node <= 63
-            }
-            Kind::Taken => {
-                if self.flags != 0 {
-                    return false;
-                }
-                self.node == 0
-            }
+            Kind::Memory => self.flags <= 7 && self.node <= 63,
+            Kind::Taken => self.flags == 0 && self.node == 0,
         }
     }
 }
@@ -142,15 +122,13 @@ impl State {
     pub fn is(self, tag: Tag) -> bool
         ensures { result ≡ is_tag self tag }
     {
-        match self {
-            State::Absent => false,
-            State::Present(own) => own.same(tag),
-        }
+        self == State::Present(tag)
     }
 }
 
 impl Change {
     // What the change makes of an address of this state.
+    #[tactic(auto, unfolding(crate::specs::Changes::change))]
     pub fn apply(self, state: State) -> State
         requires { FlagBounded self × FlagsBounded state }
         ensures { result ≡ change self state }
@@ -159,11 +137,10 @@ impl Change {
             State::Absent => match self {
                 Change::Fill(tag) => State::Present(tag),
                 Change::Clear => State::Absent,
-                Change::Mark(_w) => State::Absent,
-                Change::Unmark(_w) => State::Absent,
+                Change::Mark(_) | Change::Unmark(_) => State::Absent,
             },
             State::Present(own) => match self {
-                Change::Fill(_tag) => state,
+                Change::Fill(_) => state,
                 Change::Clear => State::Absent,
                 Change::Mark(w) => State::Present(own.with_flag(w)),
                 Change::Unmark(w) => State::Present(own.without_flag(w)),
@@ -177,22 +154,13 @@ impl Region {
     pub fn joins(self, base: Address, tag: Tag) -> bool
         ensures { result ≡ joins_at self base.0 tag }
     {
-        let CheckedAddress::At(end) = self.end() else {
-            return false;
-        };
-        if end.0 != base.0 {
-            return false;
-        }
-        let own = self.tag;
-        own.same(tag)
+        self.end() == Some(base) && self.tag == tag
     }
 
     // The first address past the region.
-    pub fn end(self) -> CheckedAddress
+    pub fn end(self) -> Option<Address>
         ensures { result ≡ checked_address (end_of self) }
     {
-        let base = self.base;
-        let size = self.size;
-        base.plus(size)
+        self.base.plus(self.size)
     }
 }

@@ -4,7 +4,7 @@
 
 use block::LENGTH;
 use memblock::{memblock_fresh, memblock_intake_e820};
-use program::{read_argument, say_answer};
+use program::{Program, say_answer};
 
 // One byte more than the longest report has: a longer file is then seen to be too long.
 const ROOM: usize = 2561;
@@ -18,11 +18,11 @@ fn take_in(rt: &impl Print, report: &[u8]) {
 }
 
 fn main(rt: HostRuntime) {
-    let mut report = [0u8; ROOM];
-    let input = read_argument(&rt, b"report", &mut report);
-    if !input.read {
-        return;
+    let program = Program {
+        rt: &rt,
+        name: "report",
+    };
+    if let Some(report) = program.read_argument(ROOM) {
+        take_in(&rt, &report);
     }
-    let n = input.count;
-    take_in(&rt, &report[..n]);
 }

@@ -11,7 +11,9 @@ use Rattle.regions.specs.Runs.{run_at}
 use Rattle.regions.specs.Bytes.{read_region, read_regions}
 use Rattle.fits.specs.declared.Query.{Query}
 use Rattle.fits.specs.declared.Way.{Way}
+use Rattle.records.specs.declared.table.Records.{Records}
 use Rattle.runs.specs.declared.Bounds.{Bounds}
+use Rattle.runs.specs.declared.Tables.{Tables}
 use Rattle.fits.specs.Eligible.{eligible}
 use Rattle.fits.specs.Places.{Hit, hit_of}
 use Rattle.fits.specs.Steps.{extreme}
@@ -22,24 +24,39 @@ abbrev pub bounds_of : Region → Bounds
 bounds_of r = record { base = r.base; end = record { 0 = end r } }
 
 -- behind the last record one at the top, before the first one at 0: neither is ever met
-abbrev pub bounds_low : ℕ → List ℕ → ℕ → Bounds
-bounds_low n l j =
-    cond (leb n j) (record { base = record { 0 = 18446744073709551615 }; end = record { 0 = 18446744073709551615 } }) (bounds_of (read_region (drop (24 * j) l)))
+abbrev pub bounds_low : Records → ℕ → Bounds
+bounds_low t j =
+    cond (leb t.count j) (record { base = record { 0 = 18446744073709551615 }; end = record { 0 = 18446744073709551615 } })
+    (bounds_of (read_region (drop (24 * j) t.bytes.now)))
 
-abbrev pub bounds_high : List ℕ → ℕ → Bounds
-bounds_high l j = cond (eqb j 0) (record { base = record { 0 = 0 }; end = record { 0 = 0 } }) (bounds_of (read_region (drop (24 * (j - 1)) l)))
+abbrev pub bounds_high : Records → ℕ → Bounds
+bounds_high t j = cond (eqb j 0) (record { base = record { 0 = 0 }; end = record { 0 = 0 } }) (bounds_of (read_region (drop (24 * (j - 1)) t.bytes.now)))
 
 -- ---- two tables
+
+-- the lists that they hold
+abbrev pub regions_of : Records → List Region
+regions_of t = read_regions t.count t.bytes.now
+
+abbrev pub memory_of : Tables → List Region
+memory_of t = regions_of t.memory
+
+abbrev pub taken_of : Tables → List Region
+taken_of t = regions_of t.taken
 
 -- the first eligible address in the order of the walk, with its free run
 unfoldable pub first_in : Way → List Region → List Region → Query → Option Hit
 first_in v ms ts q = hit_of (run_at (free_runs ms ts)) (extreme v (eligible q (free_runs ms ts)) top)
 
--- parts of a block that hold good tables, and something that can be looked for
-pub record Searchable (memory : List ℕ) (mcount : ℕ) (taken : List ℕ) (tcount : ℕ) (q : Query) : Type 0 where
+-- they lie in the bytes lent, and are good
+pub record GoodTables (t : Tables) : Type 0 where
+  pub room_memory : 24 * t.memory.count ≤ length t.memory.bytes.now
+  pub room_taken : 24 * t.taken.count ≤ length t.taken.bytes.now
+  pub good_memory : good_list Memory (memory_of t) ≡ true
+  pub good_taken : good_list Taken (taken_of t) ≡ true
+
+-- good tables, and something that can be looked for
+pub record Searchable (t : Tables) (q : Query) : Type 0 where
+  pub tables : GoodTables t
   pub size : 0 < q.size.0
   pub align : power_of_two q.align.0 ≡ true
-  pub room_memory : 24 * mcount ≤ length memory
-  pub room_taken : 24 * tcount ≤ length taken
-  pub good_memory : good_list Memory (read_regions mcount memory) ≡ true
-  pub good_taken : good_list Taken (read_regions tcount taken) ≡ true

@@ -15,9 +15,8 @@ use Rattle.block.specs.declared.Layout.{Layout}
 use Rattle.block.specs.Block.{current, capacity, with_list, block_bytes, contents}
 use Rattle.range.specs.Outcomes.{Outcome, outcome, store, tag, change_range}
 use Rattle.fits.specs.declared.Query.{Query}
-use Rattle.regions.specs.declared.Run.{Run}
-use Rattle.fits.specs.declared.Place.{Place}
-use Rattle.fits.specs.declared.Place.TheVariants.{Here, Nowhere}
+use Rattle.std.specs.Prelude.{Option, Some, None}
+use Rattle.fits.specs.declared.Spot.{Spot}
 use Rattle.seek.specs.Search.{found_place}
 use Rattle.search.specs.Answers.{Answer, answer, refuse, slip_of, check_number, reserved, allocate, allocate_answer}
 use Rattle.seek.specs.Steps.{Ready}
@@ -59,21 +58,21 @@ module _ (b s : List ℕ) (q : Query) (n : ℕ) (z : List ℕ) (e : answer n b z
   unfolding allocate
   allocate_refused f = stopped (check_number current q b) b s n z e f inner
 
-  module _ (f : n ≡ 0) (r : Place) (o : r ≡ found_place (contents current b) q) where
+  module _ (f : n ≡ 0) (r : Option Spot) (o : r ≡ found_place (contents current b) q) where
     answered : allocate_answer current b q.size.0 r ≡ allocate current q b s
     unfolding allocate
     answered = ap (allocate_answer current b q.size.0) o ∙ goes_on (check_number current q b) b s n z e f inner
 
-    pub allocate_none : r ≡ Nowhere → answer 5 b z ≡ allocate current q b s
+    pub allocate_none : r ≡ None → answer 5 b z ≡ allocate current q b s
     allocate_none g = ap (answer 5 b) (still_zero (check_number current q b) b s n z e f) ∙ ap (allocate_answer current b q.size.0) (sym g) ∙ answered
 
-    pub allocate_some : (a : Address) (v : Run) → r ≡ Here a v → (t : Answer)
-        → t ≡ reserved b a.0 v.end.0 (change_range current Taken (Fill (tag 0 0)) a.0 q.size.0 b) → t ≡ allocate current q b s
-    allocate_some a v g t w = w ∙ ap (allocate_answer current b q.size.0) (sym g) ∙ answered
+    pub allocate_some : (v : Spot) → r ≡ Some v → (t : Answer)
+        → t ≡ reserved b v.at.0 v.run.end.0 (change_range current Taken (Fill (tag 0 0)) v.at.0 q.size.0 b) → t ≡ allocate current q b s
+    allocate_some v g t w = w ∙ ap (allocate_answer current b q.size.0) (sym g) ∙ answered
 
 -- what was found can be reserved
-pub found_reservable : (b : List ℕ) (q : Query) → Ready b q → (r : Place) → r ≡ found_place (contents current b) q → (a : Address) (v : Run) → r ≡ Here a v
-    → (z : List ℕ) → z ≡ replicate 16 0 → Reservable b a.0 q.size.0 z
-found_reservable b q p r o a v g z e =
-    let w = found_vacant b q p r o a v g in
+pub found_reservable : (b : List ℕ) (q : Query) → Ready b q → (r : Option Spot) → r ≡ found_place (contents current b) q → (v : Spot) → r ≡ Some v
+    → (z : List ℕ) → z ≡ replicate 16 0 → Reservable b v.at.0 q.size.0 z
+found_reservable b q p r o v g z e =
+    let w = found_vacant b q p r o v g in
     record { good = p.good; some = p.size; end = w.0; vacant = w.1; zero = e }

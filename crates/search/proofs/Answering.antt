@@ -21,9 +21,8 @@ use Rattle.block.specs.Block.{current, contents, good}
 use Rattle.block.proofs.Blocks.{bad_here, good_here}
 use Rattle.regions.specs.Runs.{run_at}
 use Rattle.fits.specs.declared.Query.{Query}
-use Rattle.regions.specs.declared.Run.{Run}
-use Rattle.fits.specs.declared.Place.{Place}
-use Rattle.fits.specs.declared.Place.TheVariants.{Here, Nowhere}
+use Rattle.std.specs.Prelude.{Option as Maybe, Some, None}
+use Rattle.fits.specs.declared.Spot.{Spot}
 use Rattle.seek.specs.Search.{window, runs_of, found, found_place, next_place}
 use Rattle.search.specs.Answers.{Answer, answer, refuse, slip_of, askable, refusal, check_number, next_number, asking, place_answer, find, next_free}
 use Rattle.fits.specs.Places.{hit_of, place_of}
@@ -153,27 +152,27 @@ module _ (k : ℕ) (b s : List ℕ) where
 
 -- ---- what was found
 
-module _ (p : Place) (s : List ℕ) where
-  pub told_none : s ≡ replicate 16 0 → p ≡ Nowhere → Told p 5 s
+module _ (p : Maybe Spot) (s : List ℕ) where
+  pub told_none : s ≡ replicate 16 0 → p ≡ None → Told p 5 s
   told_none e f b = rw f (ap (answer 5 b) e)
 
-  pub told_some : (a : Address) (r : Run) → p ≡ Here a r → s ≡ slip_of a.0 r.end.0 → Told p 0 s
-  told_some a r f e b = rw f (ap (answer 0 b) e)
+  pub told_some : (v : Spot) → p ≡ Some v → s ≡ slip_of v.at.0 v.run.end.0 → Told p 0 s
+  told_some v f e b = rw f (ap (answer 0 b) e)
 
 -- ---- find
 
 -- what is found in a good block ends at the top or below, and no address of it is taken
-pub found_vacant : (b : List ℕ) (q : Query) → Ready b q → (f : Place) → f ≡ found_place (contents current b) q → (a : Address) (u : Run) → f ≡ Here a u
-    → (a.0 + q.size.0 ≤ top) × Vacant a.0 (a.0 + q.size.0) (contents current b).taken
+pub found_vacant : (b : List ℕ) (q : Query) → Ready b q → (f : Maybe Spot) → f ≡ found_place (contents current b) q → (v : Spot) → f ≡ Some v
+    → (v.at.0 + q.size.0 ≤ top) × Vacant v.at.0 (v.at.0 + q.size.0) (contents current b).taken
 unfolding found_place
-found_vacant b q p f e a u g = go (found (contents current b) q) refl (sym g ∙ e)
+found_vacant b q p f e v g = go (found (contents current b) q) refl (sym g ∙ e)
   where
-    go : (o : Option ℕ) → found (contents current b) q ≡ o → Here a u ≡ place_of (hit_of (run_at (runs_of (contents current b))) o)
-        → (a.0 + q.size.0 ≤ top) × Vacant a.0 (a.0 + q.size.0) (contents current b).taken
+    go : (o : Option ℕ) → found (contents current b) q ≡ o → Some v ≡ place_of (hit_of (run_at (runs_of (contents current b))) o)
+        → (v.at.0 + q.size.0 ≤ top) × Vacant v.at.0 (v.at.0 + q.size.0) (contents current b).taken
     go none h i = absurd (zero_not_one cc)
     go (some x) h i =
         let s = contents current b in
-        let y : a ≡ record { 0 = x } = cc in
+        let y : v.at ≡ record { 0 = x } = cc in
         let l = found_eligible s q x h in
         rw y (eligible_below (window s.settings.limit.0 q) s x p.size l, eligible_vacant (window s.settings.limit.0 q) s x p.size l)
 
@@ -187,7 +186,7 @@ module _ (b s : List ℕ) (q : Query) (n : ℕ) (z : List ℕ) (e : answer n b z
   unfolding find
   find_refused f = stopped (check_number current q b) b s n z e f (place_answer b (found_place (contents current b) q))
 
-  pub find_told : n ≡ 0 → (p : Place) → p ≡ found_place (contents current b) q → (m : ℕ) (y : List ℕ) → Told p m y → answer m b y ≡ find current q b s
+  pub find_told : n ≡ 0 → (p : Maybe Spot) → p ≡ found_place (contents current b) q → (m : ℕ) (y : List ℕ) → Told p m y → answer m b y ≡ find current q b s
   unfolding find
   find_told f p o m y t = t b ∙ ap (place_answer b) o ∙ goes_on (check_number current q b) b s n z e f (place_answer b (found_place (contents current b) q))
 
@@ -208,7 +207,7 @@ module _ (b s : List ℕ) (p : Address) (node wish : ℕ) (q : Query) (k : q ≡
   pub next_good : n ≡ 0 → good current b ≡ true
   next_good f = (begun_ready b s q n z e f).good
 
-  pub next_told : n ≡ 0 → (r : Place) → r ≡ next_place (contents current b) p.0 node wish → (m : ℕ) (y : List ℕ) → Told r m y
+  pub next_told : n ≡ 0 → (r : Maybe Spot) → r ≡ next_place (contents current b) p.0 node wish → (m : ℕ) (y : List ℕ) → Told r m y
       → answer m b y ≡ next_free current p.0 node wish b s
   unfolding next_free
   next_told f r o m y t = t b ∙ ap (place_answer b) o ∙ goes_on (next_number current node wish b) b s n z as_next f (place_answer b (next_place (contents current b) p.0 node wish))

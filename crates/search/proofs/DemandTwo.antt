@@ -11,7 +11,6 @@ use lib.ListN.{length}
 use borrow.Author.Tests.{eqb-true, eqb-false}
 use Rattle.address.specs.Numbers.{power_of_two}
 use Rattle.address.proofs.Tests.{clash, le_or_lt}
-use Rattle.address.specs.declared.Address.{Address}
 use Rattle.regions.specs.declared.Kind.{Kind}
 use Rattle.regions.specs.declared.Kind.TheVariants.{Memory, Taken}
 use Rattle.regions.specs.declared.Region.{Region}
@@ -28,8 +27,8 @@ use Rattle.block.specs.Block.{capacity, with_list, block_bytes, contents, good}
 use Rattle.block.proofs.Blocks.{lists_ok, good_contents_lem}
 use Rattle.range.specs.Outcomes.{Outcome, outcome, store, tag, change_range}
 use Rattle.fits.specs.declared.Query.{Query}
-use Rattle.fits.specs.declared.Place.{Place}
-use Rattle.fits.specs.declared.Place.TheVariants.{Here, Nowhere}
+use Rattle.std.specs.Prelude.{Option as Maybe, Some, None}
+use Rattle.fits.specs.declared.Spot.{Spot}
 use Rattle.fits.specs.Eligible.{eligible, Gives}
 use Rattle.fits.specs.Places.{hit_of, place_of}
 use Rattle.fits.proofs.Extremes.{lowest_gives}
@@ -113,25 +112,26 @@ module _ (n : ℕ) (b slip : List ℕ) (a : Answer) where
                 let k : number 8 (asking n b slip a).slip ≡ m.at = ap (λ (x : Answer). number 8 x.slip) (through p) ∙ m.named (sym (is p) ∙ e) in
                 subst right (sym k) (best-right m.at m.best)
 
--- what a search answers for each case of Place: 5, or another number, and where that is 0 the slip's first number is the address
-pub record Answers (done : ℕ → Type 0) (answers : Place → Answer) : Type 0 where
-  pub nowhere : (answers Nowhere).number ≡ 5
-  pub here : (a : Address) (r : Run) → done (answers (Here a r)).number
+-- what a search answers for a spot, or none: 5, or another number, and where that is 0 the slip's first number is the address
+pub record Answers (done : ℕ → Type 0) (answers : Maybe Spot → Answer) : Type 0 where
+  pub nowhere : (answers None).number ≡ 5
+  pub here : (s : Spot) → done (answers (Some s)).number
   pub other : done 5 → ⊥
-  pub first : (a : Address) (r : Run) → a.0 < top → (answers (Here a r)).number ≡ 0 → number 8 (answers (Here a r)).slip ≡ a.0
+  pub first : (s : Spot) → s.at.0 < top → (answers (Some s)).number ≡ 0 → number 8 (answers (Some s)).slip ≡ s.at.0
 
 -- E holds where a test passes, all below the top, and the best that passes is answered
 module _ (E : ℕ → Type 0) (test : ℕ → Bool) (passes : (x : ℕ) → test x ≡ true → E x) (holds : (x : ℕ) → E x → (test x ≡ true) × (x < top)) where
   fails : (x : ℕ) → E x → (x < top → test x ≡ false) → ⊥
   fails x e f = clash (test x) (holds x e).0 (f (holds x e).1)
 
-  answered : (beyond : ℕ → ℕ → Type 0) (done : ℕ → Type 0) (answers : Place → Answer) → Answers done answers → (w : ℕ → Run) (o : Option ℕ) → Gives test beyond top o
+  answered : (beyond : ℕ → ℕ → Type 0) (done : ℕ → Type 0) (answers : Maybe Spot → Answer) → Answers done answers → (w : ℕ → Run) (o : Option ℕ) → Gives test beyond top o
       → Missed E (answers (place_of (hit_of w o))) ⊎ Met E beyond done (answers (place_of (hit_of w o)))
   answered beyond done answers k w none g = inl (record { five = k.nowhere; nothing = λ x e. fails x e (g x) })
   answered beyond done answers k w (some x) g =
-      let d = k.here (record { 0 = x }) (w x) in
+      let s : Spot = record { at = record { 0 = x }; run = w x } in
+      let d = k.here s in
       let b : Best E beyond x = record { holds = passes x g.0; none_beyond = λ y e m. fails y e (λ l. g.1.1 y l m) } in
-      inr (record { at = x; best = b; so = d; other = λ e. k.other (subst done e d); named = k.first (record { 0 = x }) (w x) g.1.0 })
+      inr (record { at = x; best = b; so = d; other = λ e. k.other (subst done e d); named = k.first s g.1.0 })
 
 pub memory_rises : (L : Layout) (b : List ℕ) → good L b ≡ true → Canonical top (contents L b).memory
 memory_rises L b g = good_rises Memory (contents L b).memory (lists_ok L (contents L b) (good_contents_lem L b g) Memory)
@@ -186,7 +186,7 @@ check_low L q b = go (good L b) (askable q.node q.wish) (power_of_two q.align.0)
     go true true true true = omega arith
     go true true true false = omega arith
 
-module _ (L : Layout) (q : Query) (b slip : List ℕ) (done : ℕ → Type 0) (answers : Place → Answer) (k : Answers done answers) where
+module _ (L : Layout) (q : Query) (b slip : List ℕ) (done : ℕ → Type 0) (answers : Maybe Spot → Answer) (k : Answers done answers) where
   found_answered : Passed (check_number L q b) slip
       → Missed (Eligible (contents L b) q) (answers (found_place (contents L b) q))
       ⊎ Met (Eligible (contents L b) q) (Beyond (contents L b).settings) done (answers (found_place (contents L b) q))
@@ -207,7 +207,7 @@ module _ (L : Layout) (q : Query) (b slip : List ℕ) (done : ℕ → Type 0) (a
 
 -- so find and next free answer
 pub place_answers : (b : List ℕ) → Answers (λ n. n ≡ 0) (place_answer b)
-place_answers b = record { nowhere = refl; here = λ a r. refl; other = λ e. omega arith; first = λ a r l e. slip_first a.0 r.end.0 l }
+place_answers b = record { nowhere = refl; here = λ s. refl; other = λ e. omega arith; first = λ s l e. slip_first s.at.0 s.run.end.0 l }
 
 pub find_sentence : FindSentence
 unfolding find
@@ -223,7 +223,7 @@ stored L k xs b = go (leb (length xs) (capacity L k))
     go false = inr refl
 
 pub allocate_answers : (L : Layout) (b : List ℕ) (size : ℕ) → Answers OrFull (allocate_answer L b size)
-allocate_answers L b size = record { nowhere = refl; here = λ a r. here a.0 r.end.0 (taking a.0) (stored L Taken _ b); other = other; first = λ a r l e. first a.0 r.end.0 (taking a.0) l e }
+allocate_answers L b size = record { nowhere = refl; here = λ s. here s.at.0 s.run.end.0 (taking s.at.0) (stored L Taken _ b); other = other; first = λ s l e. first s.at.0 s.run.end.0 (taking s.at.0) l e }
   where
     taking : ℕ → Outcome
     taking a = change_range L Taken (Fill (tag 0 0)) a size b

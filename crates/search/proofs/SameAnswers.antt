@@ -11,8 +11,8 @@ use Rattle.regions.specs.declared.Region.{Region}
 use Rattle.block.specs.Block.{current, capacity, with_list, block_bytes, contents, good}
 use Rattle.range.specs.Outcomes.{Outcome, outcome, done_with, store}
 use Rattle.fits.specs.declared.Query.{Query}
-use Rattle.fits.specs.declared.Place.{Place}
-use Rattle.fits.specs.declared.Place.TheVariants.{Here, Nowhere}
+use Rattle.std.specs.Prelude.{Option, Some, None}
+use Rattle.fits.specs.declared.Spot.{Spot}
 use Rattle.seek.specs.Search.{found_place}
 use Rattle.search.specs.Answers.{Answer, SameAnswer, answer, refuse, slip_of, asking, refusal, place_answer, reserved, find}
 
@@ -28,9 +28,9 @@ asking_same n b c slip x y s = go (eqb (length slip) 16) (eqb n 0) refl
     go true false e = record { number = refl; slip = refl }
     go false t e = record { number = refl; slip = refl }
 
-pub place_same : (b c : List ℕ) (p : Place) → SameAnswer (place_answer b p) (place_answer c p)
-place_same b c Nowhere = record { number = refl; slip = refl }
-place_same b c (Here a r) = record { number = refl; slip = refl }
+pub place_same : (b c : List ℕ) (p : Option Spot) → SameAnswer (place_answer b p) (place_answer c p)
+place_same b c None = record { number = refl; slip = refl }
+place_same b c (Some s) = record { number = refl; slip = refl }
 
 -- reserved in both, or in neither
 pub reserved_same : (b c : List ℕ) (a end : ℕ) (o u : Outcome) → o.number ≡ u.number → SameAnswer (reserved b a end o) (reserved c a end u)

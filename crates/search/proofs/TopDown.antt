@@ -16,8 +16,8 @@ use Rattle.range.specs.Outcomes.{Outcome, store, tag}
 use Rattle.tables.specs.Commands.{set_image_end}
 use Rattle.tables.proofs.ImageEnd.{image_end_sentence}
 use Rattle.fits.specs.declared.Query.{Query}
-use Rattle.fits.specs.declared.Place.{Place}
-use Rattle.fits.specs.declared.Place.TheVariants.{Here, Nowhere}
+use Rattle.std.specs.Prelude.{Option, Some, None}
+use Rattle.fits.specs.declared.Spot.{Spot}
 use Rattle.seek.specs.Search.{found, found_place, lowest_free, next_place}
 use Rattle.search.specs.Answers.{Answer, SameAnswer, askable, refusal, allocate_answer, find, allocate, next_free}
 use Rattle.search.specs.TopDown.{TopDownSentence}
@@ -32,14 +32,14 @@ place_down : (s : Contents) (q : Query) (image : ℕ) → s.settings.direction �
 unfolding found_place found
 place_down s q image d = rw (ne_eqb s.settings.direction 1 (λ e. omega (arith, d, e)))
 
-allocate_same : (b c : List ℕ) (image size : ℕ) → contents current c ≡ imaged (contents current b) image → (p : Place)
+allocate_same : (b c : List ℕ) (image size : ℕ) → contents current c ≡ imaged (contents current b) image → (p : Option Spot)
     → SameAnswer (allocate_answer current c size p) (allocate_answer current b size p)
-allocate_same b c image size e Nowhere = record { number = refl; slip = refl }
-allocate_same b c image size e (Here a r) =
-    let filled : List Region → List Region = changed (Fill (tag 0 0)) a.0 size in
+allocate_same b c image size e None = record { number = refl; slip = refl }
+allocate_same b c image size e (Some s) =
+    let filled : List Region → List Region = changed (Fill (tag 0 0)) s.at.0 size in
     let n : (store current Taken (filled (contents current c).taken) c).number ≡ (store current Taken (filled (contents current b).taken) b).number =
-    ap (λ (s : Contents). (store current Taken (filled s.taken) c).number) e ∙ store_same (filled (contents current b).taken) c b in
-    reserved_same c b a.0 r.end.0 (store current Taken (filled (contents current c).taken) c) (store current Taken (filled (contents current b).taken) b) n
+    ap (λ (x : Contents). (store current Taken (filled x.taken) c).number) e ∙ store_same (filled (contents current b).taken) c b in
+    reserved_same c b s.at.0 s.run.end.0 (store current Taken (filled (contents current c).taken) c) (store current Taken (filled (contents current b).taken) b) n
 
 module _ (b : List ℕ) (image : ℕ) (l : image < 2 ^ 64) where
   c : List ℕ

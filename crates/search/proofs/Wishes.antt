@@ -20,8 +20,8 @@ use Rattle.regions.proofs.Free.{free_is}
 use Rattle.block.specs.declared.Layout.{Layout}
 use Rattle.block.specs.Block.{Contents, contents, good}
 use Rattle.fits.specs.declared.Query.{Query}
-use Rattle.fits.specs.declared.Place.{Place}
-use Rattle.fits.specs.declared.Place.TheVariants.{Here, Nowhere}
+use Rattle.std.specs.Prelude.{Option, Some, None}
+use Rattle.fits.specs.declared.Spot.{Spot}
 use Rattle.fits.specs.Eligible.{asked, granted, wanted, asks}
 use Rattle.seek.specs.Search.{found_place, next_place}
 use Rattle.search.specs.Answers.{Answer, asking, askable, check_number, next_number, place_answer, allocate_answer, find, allocate, next_free}
@@ -144,9 +144,9 @@ next_two true true e = absurd (omega (arith, e))
 next_two false k e = absurd (omega (arith, e))
 
 -- what is answered for a place is never 2
-not_two : (done : ℕ → Type 0) (answers : Place → Answer) → Answers done answers → (done 2 → ⊥) → (p : Place) → (answers p).number ≡ 2 → ⊥
-not_two done answers k n Nowhere e = omega (arith, sym k.nowhere ∙ e)
-not_two done answers k n (Here a r) e = n (subst done e (k.here a r))
+not_two : (done : ℕ → Type 0) (answers : Option Spot → Answer) → Answers done answers → (done 2 → ⊥) → (p : Option Spot) → (answers p).number ≡ 2 → ⊥
+not_two done answers k n None e = omega (arith, sym k.nowhere ∙ e)
+not_two done answers k n (Some s) e = n (subst done e (k.here s))
 
 pub bad_ask_sentence : BadAskSentence
 unfolding find allocate next_free

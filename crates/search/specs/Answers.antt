@@ -8,8 +8,8 @@ use Rattle.block.specs.declared.Layout.{Layout}
 use Rattle.block.specs.Block.{contents, good}
 use Rattle.range.specs.Outcomes.{Outcome, tag, change_range}
 use Rattle.fits.specs.declared.Query.{Query}
-use Rattle.fits.specs.declared.Place.{Place}
-use Rattle.fits.specs.declared.Place.TheVariants.{Here, Nowhere}
+use Rattle.std.specs.Prelude.{Option, Some, None}
+use Rattle.fits.specs.declared.Spot.{Spot}
 use Rattle.seek.specs.Search.{found_place, next_place}
 
 -- the number, and every byte of the block, of the answer slip and of the buffer that a call fills (E14) after the call
@@ -68,9 +68,9 @@ abbrev pub asking : ℕ → List ℕ → List ℕ → Answer → Answer
 asking n b slip a = with_slip b slip (unless (eqb n 0) n b a)
 
 -- the address found and the end of its free run (E5), for find and next free; the block stays
-abbrev pub place_answer : List ℕ → Place → Answer
-place_answer b Nowhere = refuse 5 b
-place_answer b (Here a run) = answer 0 b (slip_of a.0 run.end.0)
+abbrev pub place_answer : List ℕ → Option Spot → Answer
+place_answer b None = refuse 5 b
+place_answer b (Some s) = answer 0 b (slip_of s.at.0 s.run.end.0)
 
 unfoldable pub find : Layout → Query → List ℕ → List ℕ → Answer
 find L q b slip = asking (check_number L q b) b slip (place_answer b (found_place (contents L b) q))
@@ -79,9 +79,9 @@ find L q b slip = asking (check_number L q b) b slip (place_answer b (found_plac
 abbrev pub reserved : List ℕ → ℕ → ℕ → Outcome → Answer
 reserved b a end o = cond (eqb o.number 0) (answer 0 o.block (slip_of a end)) (refuse o.number b)
 
-abbrev pub allocate_answer : Layout → List ℕ → ℕ → Place → Answer
-allocate_answer L b size Nowhere = refuse 5 b
-allocate_answer L b size (Here a run) = reserved b a.0 run.end.0 (change_range L Taken (Fill (tag 0 0)) a.0 size b)
+abbrev pub allocate_answer : Layout → List ℕ → ℕ → Option Spot → Answer
+allocate_answer L b size None = refuse 5 b
+allocate_answer L b size (Some s) = reserved b s.at.0 s.run.end.0 (change_range L Taken (Fill (tag 0 0)) s.at.0 size b)
 
 unfoldable pub allocate : Layout → Query → List ℕ → List ℕ → Answer
 allocate L q b slip = asking (check_number L q b) b slip (allocate_answer L b q.size.0 (found_place (contents L b) q))

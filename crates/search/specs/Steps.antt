@@ -3,7 +3,8 @@ use Rattle.std.specs.Prelude.{ℕ, ◌+◌, ◌≤◌, ◌<◌, ◌≡◌, true,
 use Rattle.regions.specs.Meaning.{top}
 use Rattle.block.specs.Block.{current, contents, good}
 use Rattle.change.specs.Steps.{Vacant}
-use Rattle.fits.specs.declared.Place.{Place}
+use Rattle.std.specs.Prelude.{Option as Maybe}
+use Rattle.fits.specs.declared.Spot.{Spot}
 use Rattle.search.specs.Answers.{Answer, answer, refuse, with_slip, place_answer}
 
 -- the slip and the checks, whose number is n, and no more: a slip of 16 bytes is all zero
@@ -11,7 +12,7 @@ abbrev pub begun : ℕ → List ℕ → List ℕ → Answer
 begun n b slip = with_slip b slip (refuse n b)
 
 -- the number n and the slip are the answer for that place, whatever the block
-abbrev pub Told : Place → ℕ → List ℕ → Type 0
+abbrev pub Told : Maybe Spot → ℕ → List ℕ → Type 0
 Told p n slip = (b : List ℕ) → answer n b slip ≡ place_answer b p
 
 -- what allocate reserves: some addresses of a good block, none of them taken; the slip is still all zero

@@ -6,20 +6,18 @@ use mathlib.Core.List.{List}
 use mathlib.Core.Option.{Option, none, some}
 use native.Mathlib.Omega.{arith}
 use Rattle.address.specs.declared.Address.{Address}
-use Rattle.address.specs.declared.CheckedAddress.{CheckedAddress}
-use Rattle.address.specs.declared.CheckedAddress.TheVariants.{At, Outside}
 use Rattle.address.specs.Numbers.{address}
 use Rattle.address.proofs.Checked.{address_at, address_outside}
-use Rattle.address.proofs.Tests.{no, clash, zero_not_one}
-use Rattle.regions.specs.declared.Run.{Run}
+use Rattle.address.proofs.Tests.{no, clash}
 use Rattle.regions.specs.Meaning.{top, top_is}
 use Rattle.regions.specs.Runs.{run_at}
 use Rattle.block.specs.declared.Header.{Header}
 use Rattle.block.specs.Block.{current, Contents, read_header, contents}
 use Rattle.fits.specs.declared.Query.{Query}
 use Rattle.fits.specs.declared.Way.TheVariants.{Up}
-use Rattle.fits.specs.declared.Place.{Place}
-use Rattle.fits.specs.declared.Place.TheVariants.{Here, Nowhere}
+use Rattle.std.specs.Prelude.{Some, None, is_some}
+use Rattle.std.specs.Prelude.{Option as Answer}
+use Rattle.fits.specs.declared.Spot.{Spot}
 use Rattle.fits.specs.Eligible.{lowest, eligible, Gives, Lies}
 use Rattle.fits.specs.Places.{hit_of, place_of}
 use Rattle.fits.proofs.Eligible.{eligible_lies, lies_eligible}
@@ -46,18 +44,18 @@ module _ (b : List ℕ) (w : Query) (p : Ready b w) (a : Address) where
   pub at_before : a.0 < w.start.0 → false ≡ test
   at_before l = fails (λ t. omega (arith, (eligible_lies w (runs_of s) a.0 t).start))
 
-  module _ (x : CheckedAddress) (y : x ≡ address (a.0 + w.size.0)) where
-    pub at_outside : x ≡ Outside → false ≡ test
+  module _ (x : Answer Address) (y : x ≡ address (a.0 + w.size.0)) where
+    pub at_outside : x ≡ None → false ≡ test
     at_outside o = fails (λ t. omega (arith, ends t, address_outside (a.0 + w.size.0) x y o, top_is))
 
-    module _ (end : Address) (o : x ≡ At end) where
+    module _ (end : Address) (o : x ≡ Some end) where
       end_is : end.0 ≡ a.0 + w.size.0
       end_is = (address_at (a.0 + w.size.0) x end y o).0
 
       pub at_past : w.end.0 < end.0 → false ≡ test
       at_past l = fails (λ t. omega (arith, (eligible_lies w (runs_of s) a.0 t).end, end_is))
 
-      module _ (low : w.start.0 ≤ a.0) (high : end.0 ≤ w.end.0) (u : Query) (k : u ≡ with_window w a end) (f : Place) (g : f ≡ first_of Up s u) where
+      module _ (low : w.start.0 ≤ a.0) (high : end.0 ≤ w.end.0) (u : Query) (k : u ≡ with_window w a end) (f : Answer Spot) (g : f ≡ first_of Up s u) where
         abbrev own : ℕ → Bool
         own = eligible (with_window w a end) (runs_of s)
 
@@ -73,19 +71,13 @@ module _ (b : List ℕ) (w : Query) (p : Ready b w) (a : Address) where
             let v : Lies (with_window w a end) (runs_of s) a.0 = rw z at d in
             lies_eligible w (runs_of s) a.0 (record { aligned = v.aligned; start = low; end = omega (arith, end_is); run = v.run })
 
-        pub at_here : (c : Address) (v : Run) → f ≡ Here c v → true ≡ test
-        at_here c v i = go (lowest own top) (lowest_gives own top) (sym i ∙ found)
+        -- so it is found exactly when it is eligible
+        pub at_found : is_some f ≡ test
+        at_found = ap is_some found ∙ go (lowest own top) (lowest_gives own top)
           where
-            go : (m : Option ℕ) → Gives own (λ y x. y < x) top m → Here c v ≡ place_of (hit_of (run_at (runs_of s)) m) → true ≡ test
-            go none t j = absurd (zero_not_one cc)
-            go (some n) t j = sym (narrowed n t.0)
-
-        pub at_nowhere : f ≡ Nowhere → false ≡ test
-        at_nowhere i = go (lowest own top) (lowest_gives own top) (sym i ∙ found)
-          where
-            go : (m : Option ℕ) → Gives own (λ y x. y < x) top m → Nowhere ≡ place_of (hit_of (run_at (runs_of s)) m) → false ≡ test
-            go (some n) t j = absurd (zero_not_one cc)
-            go none t j =
+            go : (m : Option ℕ) → Gives own (λ y x. y < x) top m → is_some (place_of (hit_of (run_at (runs_of s)) m)) ≡ test
+            go (some n) t = sym (narrowed n t.0)
+            go none t =
                 fails (λ z.
                 let d = eligible_lies w (runs_of s) a.0 z in
                 let v = lies_eligible (with_window w a end) (runs_of s) a.0 (record { aligned = d.aligned; start = omega arith; end = omega (arith, end_is); run = d.run }) in

@@ -1,7 +1,7 @@
 -- A bottom-up search by the two walks: up from the image end and, where that finds nothing, down from the window's end. Assumes nothing.
 use Prim.Native.Nat.{ℕ, ◌≤◌, ◌<◌, max}
 use mathlib.Core.Path.{◌≡◌, refl, sym, ap, ◌∙◌}
-use mathlib.Core.Bool.{Bool, ◌&&◌}
+use mathlib.Core.Bool.{Bool, true, false, ◌&&◌}
 use mathlib.Core.List.{List}
 use mathlib.Core.Option.{Option, none, some}
 use native.Mathlib.Omega.{arith}
@@ -10,14 +10,14 @@ use borrow.Author.Tests.{leb-true, le-leb}
 use Rattle.address.specs.declared.Address.{Address}
 use Rattle.address.proofs.Tests.{both, and, clash, iff, zero_not_one}
 use Rattle.regions.specs.declared.Region.{Region}
-use Rattle.regions.specs.declared.Run.{Run}
 use Rattle.regions.specs.Meaning.{top}
 use Rattle.regions.specs.Runs.{run_at}
 use Rattle.block.specs.Block.{Contents}
 use Rattle.fits.specs.declared.Query.{Query}
 use Rattle.fits.specs.declared.Way.TheVariants.{Up, Down}
-use Rattle.fits.specs.declared.Place.{Place}
-use Rattle.fits.specs.declared.Place.TheVariants.{Here, Nowhere}
+use Rattle.std.specs.Prelude.{is_some}
+use Rattle.std.specs.Prelude.{Option as Answer}
+use Rattle.fits.specs.declared.Spot.{Spot}
 use Rattle.fits.specs.Eligible.{or_else, lowest, highest, eligible, Gives}
 use Rattle.fits.specs.Places.{hit_of, place_of}
 use Rattle.runs.specs.Steps.{first_in}
@@ -56,8 +56,8 @@ module _ (w : Query) (runs : List Region) (image : ℕ) where
           let l = eligible_lies w runs a k.0 in
           absurd (clash (above w runs image a) (and (le-leb image a (omega (arith, l.start))) k.0) (g a k.1.0))
 
-module _ (s : Contents) (w : Query) (image v : Address) (r : v.0 ≡ max w.start.0 image.0) (u : Query) (is : u ≡ with_window w v w.end) (f : Place) (e : f ≡ first_of Up s u) where
-  abbrev placed : Option ℕ → Place
+module _ (s : Contents) (w : Query) (image v : Address) (r : v.0 ≡ max w.start.0 image.0) (u : Query) (is : u ≡ with_window w v w.end) (f : Answer Spot) (e : f ≡ first_of Up s u) where
+  abbrev placed : Option ℕ → Answer Spot
   placed o = place_of (hit_of (run_at (runs_of s)) o)
 
   found_above : f ≡ placed (lowest (above w (runs_of s) image.0) top)
@@ -65,26 +65,26 @@ module _ (s : Contents) (w : Query) (image v : Address) (r : v.0 ≡ max w.start
   found_above = e ∙ rw is (ap placed (lowest_raised w (runs_of s) image.0 v r))
 
   -- the way up found an address
-  pub up_found : (a : Address) (t : Run) → f ≡ Here a t → Here a t ≡ bottom_up_of s w image.0
-  up_found a t i = go (lowest (above w (runs_of s) image.0) top) (sym i ∙ found_above)
+  pub up_found : (b : Bool) → b ≡ is_some f → b ≡ true → f ≡ bottom_up_of s w image.0
+  up_found b d i = found_above ∙ go (lowest (above w (runs_of s) image.0) top) (sym (d ∙ ap is_some found_above) ∙ i)
     where
-      go : (o : Option ℕ) → Here a t ≡ placed o → Here a t ≡ placed (or_else o (highest (eligible w (runs_of s)) top))
+      go : (o : Option ℕ) → is_some (placed o) ≡ true → placed o ≡ placed (or_else o (highest (eligible w (runs_of s)) top))
       go none j = absurd (zero_not_one cc)
-      go (some x) j = j
+      go (some x) j = refl
 
-  module _ (i : f ≡ Nowhere) where
+  module _ (b : Bool) (d : b ≡ is_some f) (i : b ≡ false) where
     nothing_above : lowest (above w (runs_of s) image.0) top ≡ none
-    nothing_above = go (lowest (above w (runs_of s) image.0) top) (sym i ∙ found_above)
+    nothing_above = go (lowest (above w (runs_of s) image.0) top) (sym (d ∙ ap is_some found_above) ∙ i)
       where
-        go : (o : Option ℕ) → Nowhere ≡ placed o → o ≡ none
+        go : (o : Option ℕ) → is_some (placed o) ≡ false → o ≡ none
         go none j = refl
         go (some x) j = absurd (zero_not_one cc)
 
     -- it found nothing, and has seen the whole window
-    pub up_nowhere : image.0 ≤ w.start.0 → Nowhere ≡ bottom_up_of s w image.0
-    up_nowhere h = rw (nothing_above, none_at_all w (runs_of s) image.0 h nothing_above)
+    pub up_nowhere : image.0 ≤ w.start.0 → f ≡ bottom_up_of s w image.0
+    up_nowhere h = found_above ∙ rw (nothing_above, none_at_all w (runs_of s) image.0 h nothing_above)
 
     -- it found nothing, and the way down gives the highest
-    pub up_then_down : (g : Place) → g ≡ first_of Down s w → g ≡ bottom_up_of s w image.0
+    pub up_then_down : (g : Answer Spot) → g ≡ first_of Down s w → g ≡ bottom_up_of s w image.0
     unfolding first_in
     up_then_down g j = rw nothing_above j

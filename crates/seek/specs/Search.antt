@@ -1,5 +1,6 @@
 -- Which addresses a search may give, and which of them it gives. Assumes nothing.
 use Rattle.std.specs.Prelude.{ℕ, min, max, Bool, cond, ◌&&◌, List, leb, eqb}
+use Rattle.std.specs.Prelude.{Option as Answer}
 use Rattle.std.proofs.Math.Option.{Option}
 use Rattle.regions.specs.declared.Region.{Region}
 use Rattle.regions.specs.Meaning.{top}
@@ -7,7 +8,7 @@ use Rattle.regions.specs.Free.{free_runs}
 use Rattle.regions.specs.Runs.{in_one, run_at}
 use Rattle.block.specs.Block.{Contents}
 use Rattle.fits.specs.declared.Query.{Query}
-use Rattle.fits.specs.declared.Place.{Place}
+use Rattle.fits.specs.declared.Spot.{Spot}
 use Rattle.fits.specs.Eligible.{or_else, lowest, highest, wanted, eligible}
 use Rattle.fits.specs.Places.{hit_of, place_of}
 
@@ -49,7 +50,7 @@ found s q =
     cond (eqb s.settings.direction 1) (bottom_up s.settings.image.0 p) (highest p top)
 
 -- the same with the free run that it lies in
-unfoldable pub found_place : Contents → Query → Place
+unfoldable pub found_place : Contents → Query → Answer Spot
 found_place s q = place_of (hit_of (run_at (runs_of s)) (found s q))
 
 -- ---- next free
@@ -61,5 +62,5 @@ free_from p node wish runs a = leb p a && in_one (wanted node wish) 1 a runs
 unfoldable pub lowest_free : Contents → ℕ → ℕ → ℕ → Option ℕ
 lowest_free s p node wish = lowest (free_from p node wish (runs_of s)) top
 
-unfoldable pub next_place : Contents → ℕ → ℕ → ℕ → Place
+unfoldable pub next_place : Contents → ℕ → ℕ → ℕ → Answer Spot
 next_place s p node wish = place_of (hit_of (run_at (runs_of s)) (lowest_free s p node wish))

@@ -2,15 +2,16 @@
 #![tactic(auto)]
 
 ghost use Rattle.std.specs.Prelude.{◌≡◌, ◌≤◌};
-ghost use Rattle.sweep.specs.Steps.{Tables, Ahead, Advanced};
+ghost use Rattle.runs.specs.Steps.{GoodTables};
+ghost use Rattle.sweep.specs.Steps.{Ahead, Advanced};
 
 use address::Address;
-use records::table::place;
-use regions::bytes::get_region;
-use runs::{Bounds, bounds_high, bounds_low, past};
+use regions::has;
+use runs::{Bounds, Tables, bounds_high, bounds_low, past};
 
 // Where a sweep stands: what lies below `low` is behind it, and no run goes across. What is left of the memory record at hand ends at `top`; there is none
 // at hand where `top` is not above `low`. Memory record `memory` is the next to be read, and `next` is taken record `taken`.
+// No Option for the record at hand: the loop compares `top` with `low` anyway, since a taken record may reach past it.
 #[derive(Clone, Copy)]
 pub struct Sweep {
     pub low: Address,
@@ -28,23 +29,16 @@ pub struct Swept {
     pub behind: Sweep,
 }
 
-// The next run, or none is left.
-#[derive(Clone, Copy)]
-pub enum Sweeping {
-    Run(Swept),
-    Over,
-}
-
 // A sweep from `a` on: from where the last record that ends at or below `a` does.
-pub fn begin(memory: &[u8], mcount: usize, taken: &[u8], tcount: usize, a: Address) -> Sweep
-    requires { Tables memory.now mcount taken.now tcount }
-    ensures { (result.low.0 ≤ a.0) × Ahead memory.now mcount taken.now tcount result }
+pub fn begin(t: Tables<'_>, a: Address) -> Sweep
+    requires { GoodTables t }
+    ensures { (result.low.0 ≤ a.0) × Ahead t.entry result }
 {
-    let i = place(memory, mcount, a);
-    let j = place(taken, tcount, a);
-    let from = bounds_high(memory, mcount, i).end;
-    let until = bounds_high(taken, tcount, j).end;
-    let next = bounds_low(taken, tcount, j);
+    let i = t.memory.place(a);
+    let j = t.taken.place(a);
+    let from = bounds_high(t.memory, i).end;
+    let until = bounds_high(t.taken, j).end;
+    let next = bounds_low(t.taken, j);
     Sweep {
         low: from.max(until),
         top: Address(0),
@@ -54,10 +48,11 @@ pub fn begin(memory: &[u8], mcount: usize, taken: &[u8], tcount: usize, a: Addre
     }
 }
 
-// The next run. A turn reads one record: of memory, where none is at hand, else the next taken one, which ends the run or lies across where it would begin.
-pub fn advance(memory: &[u8], mcount: usize, taken: &[u8], tcount: usize, s: Sweep) -> Sweeping
-    requires { Tables memory.now mcount taken.now tcount × Ahead memory.now mcount taken.now tcount s }
-    ensures { Advanced memory.now mcount taken.now tcount s result }
+// The next run, or None where none is left. A turn reads one record: of memory, where none is at hand, else the next taken one, which ends the run or lies
+// across where it would begin. The loop goes on in two indices, one of them at each turn: no `for` and no chain has this form.
+pub fn advance(t: Tables<'_>, s: Sweep) -> Option<Swept>
+    requires { GoodTables t × Ahead t s }
+    ensures { Advanced t.entry s result }
 {
     let mut low = s.low;
     let mut top = s.top;
@@ -65,13 +60,13 @@ pub fn advance(memory: &[u8], mcount: usize, taken: &[u8], tcount: usize, s: Swe
     let mut j = s.taken;
     let mut next = s.next;
     loop {
-        if top.0 <= low.0 {
-            if mcount <= i {
-                return Sweeping::Over;
+        if top <= low {
+            if t.memory.count <= i {
+                return None;
             }
-            let r = get_region(memory, 24 * i);
+            let r = t.memory.get(i);
             i += 1;
-            if r.tag.flags / 4 % 2 == 0 {
+            if !has(4, r.tag.flags) {
                 let base = r.base;
                 top = past(r);
                 low = low.max(base);
@@ -81,7 +76,7 @@ pub fn advance(memory: &[u8], mcount: usize, taken: &[u8], tcount: usize, s: Swe
         let from = low;
         let base = next.base;
         let end = next.end;
-        if top.0 <= base.0 {
+        if top <= base {
             let behind = Sweep {
                 low: top,
                 top,
@@ -89,7 +84,7 @@ pub fn advance(memory: &[u8], mcount: usize, taken: &[u8], tcount: usize, s: Swe
                 taken: j,
                 next,
             };
-            return Sweeping::Run(Swept {
+            return Some(Swept {
                 low: from,
                 end: top,
                 behind,
@@ -97,8 +92,8 @@ pub fn advance(memory: &[u8], mcount: usize, taken: &[u8], tcount: usize, s: Swe
         }
         low = low.max(end);
         j += 1;
-        next = bounds_low(taken, tcount, j);
-        if from.0 < base.0 {
+        next = bounds_low(t.taken, j);
+        if from < base {
             let behind = Sweep {
                 low,
                 top,
@@ -106,7 +101,7 @@ pub fn advance(memory: &[u8], mcount: usize, taken: &[u8], tcount: usize, s: Swe
                 taken: j,
                 next,
             };
-            return Sweeping::Run(Swept {
+            return Some(Swept {
                 low: from,
                 end: base,
                 behind,

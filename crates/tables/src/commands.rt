@@ -1,6 +1,7 @@
 // The commands on a lent block. Each answers document 01's number; a refusal leaves the block as it was.
 ghost use Rattle.std.specs.Prelude.{◌≡◌, true};
 ghost use Rattle.address.specs.Numbers.{power_of_two};
+ghost use Rattle.refusals.specs.Numbers.{answered};
 ghost use Rattle.block.specs.Block.{current, good};
 ghost use Rattle.range.specs.Outcomes.{outcome};
 ghost use Rattle.tables.specs.Commands.{fresh as fresh_outcome, set as set_outcome, set_image_end, trim as trim_outcome, table as table_of, change_of, legal_verb, strict as strict_of, command, command_outcome};
@@ -11,14 +12,15 @@ use block::{
 };
 use range::{change_range, trim_memory};
 use records::table::{Tally, put_zeros};
+use refusals::Refusal;
 use regions::{Change, Kind, Tag, one_flag};
 
 // Writes a fresh block over any bytes of the right length.
-pub fn fresh(block: &mut [u8]) -> u32
-    ensures { outcome result block.new ≡ fresh_outcome current block.old }
+pub fn fresh(block: &mut [u8]) -> Result<(), Refusal>
+    ensures { outcome (answered result) block.new ≡ fresh_outcome current block.old }
 {
     if block.len() != LENGTH {
-        return 1;
+        return Err(Refusal::Block);
     }
     let empty = Tally {
         count: 0,
@@ -35,49 +37,47 @@ pub fn fresh(block: &mut [u8]) -> u32
     };
     put_zeros(block, 80);
     put_header(block, current_layout(), header);
-    0
+    Ok(())
 }
 
 // Stores a limit and a direction. The image end stays.
-pub fn set(block: &mut [u8], limit: Address, direction: u32) -> u32
-    ensures { outcome result block.new ≡ set_outcome current limit.0 direction block.old }
+// The direction is C's number, refused with 7 above 1.
+pub fn set(block: &mut [u8], limit: Address, direction: u32) -> Result<(), Refusal>
+    ensures { outcome (answered result) block.new ≡ set_outcome current limit.0 direction block.old }
 {
     let layout = current_layout();
     if !block_good(block, layout) {
-        return 1;
+        return Err(Refusal::Block);
     }
     if 1 < direction {
-        return 7;
+        return Err(Refusal::Direction);
     }
     let own = get_header(block);
-    let memory = own.memory;
-    let taken = own.taken;
-    let image = own.settings.image;
     let header = Header {
-        memory,
-        taken,
         settings: Settings {
             limit,
             direction,
-            image,
+            ..own.settings
         },
+        ..own
     };
     put_header(block, layout, header);
-    0
+    Ok(())
 }
 
 // Stores the image end; 0 means none. All else stays.
-pub fn set_image_end(block: &mut [u8], image: Address) -> u32
-    ensures { outcome result block.new ≡ set_image_end current image.0 block.old }
+pub fn set_image_end(block: &mut [u8], image: Address) -> Result<(), Refusal>
+    ensures { outcome (answered result) block.new ≡ set_image_end current image.0 block.old }
 {
     if !block_good(block, current_layout()) {
-        return 1;
+        return Err(Refusal::Block);
     }
     put_image_end(block, image);
-    0
+    Ok(())
 }
 
 // The commands on a range; add has its tag, mark and unmark the flag that they name.
+// Tag and flag are C's numbers, right or not: `legal` refuses the others with 2.
 #[derive(Clone, Copy)]
 pub enum Verb {
     Add(Tag),
@@ -94,12 +94,8 @@ impl Verb {
         ensures { result ≡ table_of self }
     {
         match self {
-            Verb::Add(_) => Kind::Memory,
-            Verb::Remove => Kind::Memory,
-            Verb::Mark(_) => Kind::Memory,
-            Verb::Unmark(_) => Kind::Memory,
-            Verb::Reserve => Kind::Taken,
-            Verb::Free => Kind::Taken,
+            Verb::Add(_) | Verb::Remove | Verb::Mark(_) | Verb::Unmark(_) => Kind::Memory,
+            Verb::Reserve | Verb::Free => Kind::Taken,
         }
     }
 
@@ -110,11 +106,10 @@ impl Verb {
         let plain = Tag { flags: 0, node: 0 };
         match self {
             Verb::Add(tag) => Change::Fill(tag),
-            Verb::Remove => Change::Clear,
+            Verb::Reserve => Change::Fill(plain),
+            Verb::Remove | Verb::Free => Change::Clear,
             Verb::Mark(w) => Change::Mark(w),
             Verb::Unmark(w) => Change::Unmark(w),
-            Verb::Reserve => Change::Fill(plain),
-            Verb::Free => Change::Clear,
         }
     }
 
@@ -124,11 +119,8 @@ impl Verb {
     {
         match self {
             Verb::Add(tag) => tag.legal(Kind::Memory),
-            Verb::Remove => true,
-            Verb::Mark(w) => one_flag(w),
-            Verb::Unmark(w) => one_flag(w),
-            Verb::Reserve => true,
-            Verb::Free => true,
+            Verb::Mark(w) | Verb::Unmark(w) => one_flag(w),
+            Verb::Remove | Verb::Reserve | Verb::Free => true,
         }
     }
 
@@ -136,35 +128,29 @@ impl Verb {
     fn strict(self) -> bool
         ensures { result ≡ strict_of self }
     {
-        match self {
-            Verb::Add(_) => false,
-            Verb::Remove => false,
-            Verb::Mark(_) => false,
-            Verb::Unmark(_) => false,
-            Verb::Reserve => false,
-            Verb::Free => true,
-        }
+        matches!(self, Verb::Free)
     }
 }
 
 // What a command answers on a good block, with a legal tag or flag: nothing is checked again.
-pub fn on_good(block: &mut [u8], verb: Verb, base: Address, size: Size) -> u32
+pub fn on_good(block: &mut [u8], verb: Verb, base: Address, size: Size) -> Result<(), Refusal>
     requires { (good current block.old ≡ true) × (legal_verb verb ≡ true) }
-    ensures { outcome result block.new ≡ command_outcome current (command verb base.0 size.0) block.old }
+    ensures { outcome (answered result) block.new ≡ command_outcome current (command verb base.0 size.0) block.old }
 {
     let strict = verb.strict();
     change_range(block, verb.table(), verb.change(), strict, base, size)
 }
 
 // A command on a range.
-pub fn on_range(block: &mut [u8], verb: Verb, base: Address, size: Size) -> u32
-    ensures { outcome result block.new ≡ command_outcome current (command verb base.0 size.0) block.old }
+// Base and size stay two, as C's calls and the definition `command` have them; by their types they cannot change places.
+pub fn on_range(block: &mut [u8], verb: Verb, base: Address, size: Size) -> Result<(), Refusal>
+    ensures { outcome (answered result) block.new ≡ command_outcome current (command verb base.0 size.0) block.old }
 {
     if !block_good(block, current_layout()) {
-        return 1;
+        return Err(Refusal::Block);
     }
     if !verb.legal() {
-        return 2;
+        return Err(Refusal::Tag);
     }
     on_good(block, verb, base, size)
 }
@@ -178,15 +164,15 @@ pub fn trim_on_good(block: &mut [u8], align: Size)
 }
 
 // Rounds each memory record's base up and its end down; one of which nothing is left goes.
-pub fn trim(block: &mut [u8], align: Size) -> u32
-    ensures { outcome result block.new ≡ trim_outcome current align.0 block.old }
+pub fn trim(block: &mut [u8], align: Size) -> Result<(), Refusal>
+    ensures { outcome (answered result) block.new ≡ trim_outcome current align.0 block.old }
 {
     if !block_good(block, current_layout()) {
-        return 1;
+        return Err(Refusal::Block);
     }
     if !align.power_of_two() {
-        return 3;
+        return Err(Refusal::Alignment);
     }
     trim_on_good(block, align);
-    0
+    Ok(())
 }

@@ -60,6 +60,10 @@ tokens_some names l at h e =
     let n = tokens_next names (drop at l) (omega (arith, length-drop at l)) in
     omega (arith, e, ap (λ (ts : List Token). length ts) n)
 
+pub token_none : (names : ℕ) (l : List ℕ) (at : ℕ) → length l ≤ at → token names (drop at l) ≡ broken
+unfolding token
+token_none names l at h = rw (drop_of_length-le l h) refl
+
 -- ---- a token without name and value, by its shape
 
 end_is : (x : Token) → End ≡ shape x → x ≡ end
@@ -111,7 +115,7 @@ module _ (names : ℕ) (l : List ℕ) (at : ℕ) (h : at < length l) (r : Step) 
   there_end : r.token ≡ End → token names (drop at l) ≡ end
   there_end e = end_is (token names (drop at l)) (sym e ∙ s.is)
 
-  there_nop : r.token ≡ Nop → token names (drop at l) ≡ nop
+  pub there_nop : r.token ≡ Nop → token names (drop at l) ≡ nop
   there_nop e = nop_is (token names (drop at l)) (sym e ∙ s.is)
 
   there_stop : r.token ≡ Stop → token names (drop at l) ≡ stop

@@ -6,21 +6,15 @@ use mathlib.Core.List.{List, [], ◌∷◌}
 use native.Mathlib.Numerals.{add-one}
 use native.Mathlib.Omega.{arith}
 use lib.Dec.{ltb, leb-suc-suc}
-use lib.ListN.{length, drop, take, get_or, length-drop, drop_of_length-le}
-use lib.Seq.{drop-length}
-use borrow.Author.Tests.{lt-ltb, le-ltb, ltb-false}
+use lib.ListN.{length, drop, take, get_or, length-drop}
+use borrow.Author.Tests.{lt-ltb, le-ltb, ltb-false, ne_eqb}
+use Rattle.std.proofs.Common.{Some, None, ◌==◌, position}
+use Rattle.std.specs.List.{position_or_len}
 use Rattle.tree.specs.Tokens.{to_zero, zero_ended}
 use Rattle.tree.specs.Form.{named}
 use Rattle.tree.proofs.Booleans.{never}
 
 -- ---- how many there are, byte by byte
-
-zero_hit : (l : List ℕ) (i : ℕ) → i < length l → get_or l i 0 ≡ 0 → length (to_zero (drop i l)) ≡ 0
-unfolding to_zero
-zero_hit [] i h e = omega arith
-zero_hit (zero ∷ l) zero h e = refl
-zero_hit (suc b ∷ l) zero h e = omega arith
-zero_hit (b ∷ l) (suc i) h e = zero_hit l i (omega arith) e
 
 zero_miss : (l : List ℕ) (i : ℕ) → i < length l → (get_or l i 0 ≡ 0 → ⊥) → length (to_zero (drop i l)) ≡ suc (length (to_zero (drop (i + 1) l)))
 unfolding to_zero
@@ -29,19 +23,15 @@ zero_miss (zero ∷ l) zero h e = absurd (e refl)
 zero_miss (suc b ∷ l) zero h e = refl
 zero_miss (b ∷ l) (suc i) h e = rw add-one (zero_miss l i (omega arith) e ∙ rw add-one)
 
-zero_none : (l : List ℕ) (i : ℕ) → length l ≤ i → length (to_zero (drop i l)) ≡ 0
+-- the first zero byte
+first_zero : (l : List ℕ) → position_or_len (λ b. b == 0) l ≡ length (to_zero l)
 unfolding to_zero
-zero_none l i h = rw (drop_of_length-le l h) refl
+first_zero [] = refl
+first_zero (zero ∷ l) = refl
+first_zero (suc b ∷ l) = rw (ne_eqb (suc b) 0 (omega arith)) (omega (arith, first_zero l))
 
-module _ (l : List ℕ) (at i : ℕ) (from : at ≤ i) (inv : length (to_zero (drop at l)) ≡ i - at + length (to_zero (drop i l))) where
-  pub name_hit : i < length l → get_or l i 0 ≡ 0 → i - at ≡ length (to_zero (drop at l))
-  name_hit h e = omega (arith, zero_hit l i h e)
-
-  pub name_again : i < length l → (get_or l i 0 ≡ 0 → ⊥) → length (to_zero (drop at l)) ≡ i + 1 - at + length (to_zero (drop (i + 1) l))
-  name_again h e = omega (arith, zero_miss l i h e)
-
-  pub name_end : length l ≤ i → i - at ≡ length (to_zero (drop at l))
-  name_end h = omega (arith, zero_none l i h)
+pub zero_position : (l : List ℕ) → position (λ b. b == 0) l ≡ cond (zero_ended l) (Some (length (to_zero l))) None
+zero_position l = rw (first_zero l) refl
 
 pub to_zero_take : (l : List ℕ) → to_zero l ≡ take (length (to_zero l)) l
 unfolding to_zero
@@ -75,9 +65,6 @@ ended_before (zero ∷ l) i h e = ended_zero l
 ended_before (suc b ∷ l) zero h e = absurd (omega arith)
 ended_before (suc b ∷ l) (suc i) h e = ended_suc b l ∙ ended_before l i (omega arith) e
 
-pub names_start : (l : List ℕ) → zero_ended (drop (length l) l) ≡ false
-names_start l = rw drop-length ended_none
-
 -- the last zero byte, from the end on
 names_to : (l : List ℕ) (i : ℕ) → i < length l → get_or l i 0 ≡ 0 → zero_ended (drop (i + 1) l) ≡ false → i + 1 ≡ named l
 unfolding named
@@ -90,10 +77,10 @@ names_to (b ∷ l) (suc i) h e z =
     q ∙ rw (ended_before (b ∷ l) (suc i) h e) (ap suc (names_to l i (omega arith) e y))
 
 module _ (l : List ℕ) (i : ℕ) (h : i ≤ length l) (inv : zero_ended (drop i l) ≡ false) where
-  pub names_hit : 0 < i → get_or l (i - 1) 0 ≡ 0 → i ≡ named l
+  pub names_hit : 0 < i → get_or l (i - 1) 0 ≡ 0 → i - 1 + 1 ≡ named l
   names_hit g e =
       let p : i - 1 + 1 ≡ i = omega arith in
-      sym p ∙ names_to l (i - 1) (omega arith) e (rw p inv)
+      names_to l (i - 1) (omega arith) e (rw p inv)
 
   pub names_again : 0 < i → (get_or l (i - 1) 0 ≡ 0 → ⊥) → zero_ended (drop (i - 1) l) ≡ false
   names_again g e =

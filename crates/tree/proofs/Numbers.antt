@@ -1,6 +1,6 @@
 -- Big-endian numbers: byte by byte, in two halves, and by the bytes that count. Assumes nothing.
 use Prim.Native.Nat.{ℕ, zero, suc, ◌+◌, ◌*◌}
-use mathlib.Core.Path.{◌≡◌, refl, sym, ap, ◌∙◌}
+use mathlib.Core.Path.{◌≡◌, refl, ap, ◌∙◌}
 use mathlib.Core.List.{List, [], ◌∷◌}
 use native.Mathlib.Nat.{suc-add}
 use native.Mathlib.Numerals.{add-one}
@@ -34,14 +34,11 @@ big_four v at l =
     let v₄ = 256 * v₃ + get_or l (at + 3) 0 in
     cc (big_next v 3 at l, big_next v₁ 2 (at + 1) l, big_next v₂ 1 (at + 2) l, big_next v₃ 0 (at + 3) l, big_none v₄ (drop (at + 3 + 1) l))
 
-pub word_at : (at : ℕ) (l : List ℕ) (a b c d : ℕ) → a ≡ get_or l at 0 → b ≡ get_or l (at + 1) 0 → c ≡ get_or l (at + 2) 0 → d ≡ get_or l (at + 3) 0
-    → ((a * 256 + b) * 256 + c) * 256 + d ≡ word (drop at l)
-word_at at l a b c d p q r s = omega (arith, big_four 0 at l)
+pub word_at : (at : ℕ) (l : List ℕ)
+    → get_or l at 0 * 16777216 + get_or l (at + 1) 0 * 65536 + get_or l (at + 2) 0 * 256 + get_or l (at + 3) 0 ≡ word (drop at l)
+word_at at l = omega (arith, big_four 0 at l)
 
--- ---- a u64 is two u32
-
-big_high : (v : ℕ) (l : List ℕ) → big v 4 l ≡ v * 4294967296 + word l
-big_high v l = omega (arith, big_four v 0 l, big_four 0 0 l)
+-- ---- a u64
 
 big_add : (v j k : ℕ) (l : List ℕ) → big v (j + k) l ≡ big (big v j l) k (drop j l)
 unfolding big
@@ -49,10 +46,16 @@ big_add v zero k l = let z : zero + k ≡ k = omega arith in rw z refl
 big_add v (suc j) k [] = rw suc-add (big_add (256 * v) j k [] ∙ rw drop-nil refl)
 big_add v (suc j) k (b ∷ l) = rw suc-add (big_add (256 * v + b) j k l)
 
-pub double_at : (l : List ℕ) (at a b : ℕ) → a ≡ word (drop at l) → b ≡ word (drop (at + 4) l) → a * 4294967296 + b ≡ big 0 8 (drop at l)
-double_at l at a b p q =
-    let d : drop 4 (drop at l) ≡ drop (at + 4) l = drop-drop 4 at l in
-    sym (big_add 0 4 4 (drop at l) ∙ big_high (word (drop at l)) (drop 4 (drop at l)) ∙ rw (d, ← p, ← q) refl)
+-- 8 bytes
+pub double_at : (at : ℕ) (l : List ℕ)
+    → get_or l at 0 * 72057594037927936 + get_or l (at + 1) 0 * 281474976710656 + get_or l (at + 2) 0 * 1099511627776 + get_or l (at + 3) 0 * 4294967296
+    + get_or l (at + 4) 0 * 16777216 + get_or l (at + 5) 0 * 65536 + get_or l (at + 6) 0 * 256 + get_or l (at + 7) 0 ≡ big 0 8 (drop at l)
+double_at at l =
+    let d : big 0 8 (drop at l) ≡ big (big 0 4 (drop at l)) 4 (drop (at + 4) l) = big_add 0 4 4 (drop at l) ∙ rw (drop-drop 4 at l) refl in
+    let p : at + 4 + 1 ≡ at + 5 = omega arith in
+    let q : at + 4 + 2 ≡ at + 6 = omega arith in
+    let r : at + 4 + 3 ≡ at + 7 = omega arith in
+    omega (arith, d, big_four 0 at l, rw (p, q, r) at (big_four (big 0 4 (drop at l)) (at + 4) l))
 
 -- ---- the bytes that count
 

@@ -11,7 +11,7 @@ use Rattle.tree.specs.Content as c
 use Rattle.tree.specs.Content.{Content, contents, first, in_root}
 use Rattle.tree.specs.Places.{placed, located}
 use Rattle.tree.specs.Steps.{contents_at, valued, Inside, places_at, content_at, strip, RootOf}
-use Rattle.tree.specs.declared.reader.Root.{Root}
+use Rattle.tree.specs.declared.reader.Tree.{Tree}
 use Rattle.tree.proofs.TokenCases.{property_is}
 
 module _ (l : List ℕ) where
@@ -126,10 +126,10 @@ module _ (l : List ℕ) where
       ∙ in_root_valued (first (contents (located 0 (tokens names l))))
 
 -- the same from where it begins
-module _ (strings l : List ℕ) (r : Root) (p : RootOf strings l r) where
-  pub root_placed : in_root (first (contents (located 0 (tokens (named strings) l)))) ≡ places_at r.names l r.at
+module _ (strings l : List ℕ) (t : Tree) (p : RootOf strings l t) where
+  pub root_placed : in_root (first (contents (located 0 (tokens (named strings) l)))) ≡ places_at t.structure.names l t.root
   unfolding contents_at
   root_placed = rw (← p.names) p.is.says
 
-  pub root_said : in_root (first (contents (tokens (named strings) l))) ≡ content_at r.names l r.at
+  pub root_said : in_root (first (contents (tokens (named strings) l))) ≡ content_at t.structure.names l t.root
   root_said = root_valued l (named strings) ∙ ap (valued l) root_placed

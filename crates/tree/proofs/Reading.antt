@@ -7,18 +7,29 @@ use native.Mathlib.Omega.{arith}
 use lib.Dec.{eqb}
 use lib.ListN.{length, drop}
 use borrow.Author.Tests.{ne_eqb, eqb-true, eqb-false}
-use Rattle.tree.specs.Tokens.{Token, token, tokens}
+use Rattle.tree.specs.Tokens.{Token, nop, token, tokens}
 use Rattle.tree.specs.Form.{named, formed}
 use Rattle.tree.specs.Content.{Content, first, in_root}
-use Rattle.tree.specs.Steps.{StepOf, rest_at, contents_at, strip, answers, ReadsOn, Behind, RootPast, RootIs, RootOf}
+use Rattle.tree.specs.Steps.{shape, StepOf, rest_at, contents_at, strip, answers, ReadsOn, Behind, RootPast, RootIs, RootOf}
+use Rattle.tree.specs.declared.tokens.Token as d
 use Rattle.tree.specs.declared.tokens.Token.TheVariants.{Begin, End, Property, Nop, Stop, Broken}
 use Rattle.tree.specs.declared.tokens.Step.{Step}
-use Rattle.tree.specs.declared.reader.Read.{Read}
-use Rattle.tree.specs.declared.reader.Read.TheVariants.{Past, Refused}
-use Rattle.tree.proofs.Following.{tokens_none, tokens_some, rest_none, rest_nop, rest_end, rest_begin, rest_property, rest_root, rest_stop, rest_broken}
+use Rattle.tree.specs.declared.reader.Tree.{Tree}
+use Rattle.std.proofs.Common.{Option, Some, None, IsSome, ◌⊎◌, inl, inr}
+use Rattle.tree.proofs.Following.{token_none, tokens_none, tokens_some, rest_none, rest_nop, rest_end, rest_begin, rest_property, rest_root, rest_stop, rest_broken}
 use Rattle.tree.proofs.Following.{second_root_refused, deep_refused, late_property_refused, outer_property_refused, outer_end_refused}
 use Rattle.tree.proofs.Following.{inner_stop_refused, early_stop_refused, begin_early_or_late, left_nop, left_end, left_begin, left_property}
 use Rattle.tree.proofs.Following.{in_root_lem, nodes_begin, nodes_property, front_none, front_end, front_stop, front_broken, strip_nothing}
+
+-- what each token gives
+pub by_token : {P : Type 0} (t : d.Token) → ((k : ℕ) → t ≡ Begin k → P) → (t ≡ End → P) → ((m k : ℕ) → t ≡ Property m k → P) → (t ≡ Nop → P)
+    → (t ≡ Stop → P) → (t ≡ Broken → P) → P
+by_token (Begin k) b e p n s x = b k refl
+by_token End b e p n s x = e refl
+by_token (Property m k) b e p n s x = p m k refl
+by_token Nop b e p n s x = n refl
+by_token Stop b e p n s x = s refl
+by_token Broken b e p n s x = x refl
 
 -- ---- the properties of a node
 
@@ -29,18 +40,16 @@ pub record Passing (names : ℕ) (l : List ℕ) (at i : ℕ) : Type 0 where
   pub forward : at ≤ i
   pub within : i ≤ length l
 
-pub pass_start : (names : ℕ) (l : List ℕ) (at : ℕ) → at ≤ length l → Passing names l at at
-pass_start names l at h = record { is = λ n g. refl; left = refl; nodes = refl; forward = omega arith; within = h }
-
 module _ (names : ℕ) (l : List ℕ) (at i : ℕ) (p : Passing names l at i) where
   -- no property and no operation stands there
-  passed : ((n : ℕ) → 0 < n → rest_at names l n false i ≡ rest_at names l n true i) → strip (first (contents_at names l i)) ≡ first (contents_at names l i)
-      → Behind names l at i
-  passed f g = record { is = λ n h. p.is n h ∙ f n h; left = p.left; nodes = p.nodes ∙ g; forward = p.forward; within = p.within }
+  passed : (token names (drop i l) ≡ nop → ⊥) → ((n : ℕ) → 0 < n → rest_at names l n false i ≡ rest_at names l n true i)
+      → strip (first (contents_at names l i)) ≡ first (contents_at names l i) → Behind names l at i
+  passed n f g = record { is = λ m h. p.is m h ∙ f m h; left = p.left; nodes = p.nodes ∙ g; stands = n; forward = p.forward; within = p.within }
 
   pub pass_over : length l ≤ i → Behind names l at i
   pass_over h =
-      passed (λ n g. rest_none names l n false i h ∙ sym (rest_none names l n true i h)) (strip_nothing (first (contents_at names l i)) (front_none names l i h))
+      passed (λ e. (let q = sym (token_none names l i h) ∙ e in cc)) (λ n g. rest_none names l n false i h ∙ sym (rest_none names l n true i h))
+      (strip_nothing (first (contents_at names l i)) (front_none names l i h))
 
   module _ (h : i < length l) (r : Step) (s : StepOf (token names (drop i l)) l i r) where
     pub pass_nop : r.token ≡ Nop → Passing names l at r.next
@@ -61,74 +70,88 @@ module _ (names : ℕ) (l : List ℕ) (at i : ℕ) (p : Passing names l at i) wh
       within = s.within;
     }
 
-    pub pass_begin : (k : ℕ) → r.token ≡ Begin k → Behind names l at i
-    pass_begin k e = passed (λ n g. begin_early_or_late names l i h r s n g k e) (nodes_begin names l i h r s k e)
+    pub pass_on : ((m : ℕ) × (k : ℕ) × (r.token ≡ Property m k)) ⊎ (r.token ≡ Nop) → Passing names l at r.next
+    pass_on (inl (m, k, e)) = pass_property m k e
+    pass_on (inr e) = pass_nop e
 
-    pub pass_end : r.token ≡ End → Behind names l at i
-    pass_end e =
-        passed (λ n g. rest_end names l i h r s n false g e ∙ sym (rest_end names l i h r s n true g e))
-        (strip_nothing (first (contents_at names l i)) (front_end names l i h r s e))
+    module _ (other : r.token ≡ Nop → ⊥) where
+      stays : token names (drop i l) ≡ nop → ⊥
+      stays e = other (s.is ∙ ap shape e)
 
-    pub pass_stop : r.token ≡ Stop → Behind names l at i
-    pass_stop e =
-        passed (λ n g. inner_stop_refused names l i h r s n false g e ∙ sym (inner_stop_refused names l i h r s n true g e))
-        (strip_nothing (first (contents_at names l i)) (front_stop names l i h r s e))
+      pass_begin : (k : ℕ) → r.token ≡ Begin k → Behind names l at i
+      pass_begin k e = passed stays (λ n g. begin_early_or_late names l i h r s n g k e) (nodes_begin names l i h r s k e)
 
-    pub pass_broken : r.token ≡ Broken → Behind names l at i
-    pass_broken e =
-        passed (λ n g. rest_broken names l i h r s n false e ∙ sym (rest_broken names l i h r s n true e))
-        (strip_nothing (first (contents_at names l i)) (front_broken names l i h r s e))
+      pass_end : r.token ≡ End → Behind names l at i
+      pass_end e =
+          passed stays (λ n g. rest_end names l i h r s n false g e ∙ sym (rest_end names l i h r s n true g e))
+          (strip_nothing (first (contents_at names l i)) (front_end names l i h r s e))
+
+      pass_stop : r.token ≡ Stop → Behind names l at i
+      pass_stop e =
+          passed stays (λ n g. inner_stop_refused names l i h r s n false g e ∙ sym (inner_stop_refused names l i h r s n true g e))
+          (strip_nothing (first (contents_at names l i)) (front_stop names l i h r s e))
+
+      pass_broken : r.token ≡ Broken → Behind names l at i
+      pass_broken e =
+          passed stays (λ n g. rest_broken names l i h r s n false e ∙ sym (rest_broken names l i h r s n true e))
+          (strip_nothing (first (contents_at names l i)) (front_broken names l i h r s e))
+
+      pub pass_other : ((m k : ℕ) → r.token ≡ Property m k → ⊥) → Behind names l at i
+      pass_other p = by_token r.token pass_begin pass_end (λ m k e. absurd (p m k e)) (λ e. absurd (other e)) pass_stop pass_broken
 
 -- ---- the children of a node
 
 module _ (names : ℕ) (l : List ℕ) (at left i : ℕ) (small : left < 16) (inv : rest_at names l (16 - left) true at ≡ rest_at names l (16 - left) true i) where
-  refused : rest_at names l (16 - left) true i ≡ false → ReadsOn names l (16 - left) true at Refused
+  refused : rest_at names l (16 - left) true i ≡ false → ReadsOn names l (16 - left) true at None
   unfolding answers
   refused e = record { is = inv ∙ e; end = omega arith }
 
-  pub read_over : length l ≤ i → ReadsOn names l (16 - left) true at Refused
+  pub read_over : length l ≤ i → ReadsOn names l (16 - left) true at None
   read_over h = refused (rest_none names l (16 - left) true i h)
 
   module _ (from : at ≤ i) (h : i < length l) (r : Step) (s : StepOf (token names (drop i l)) l i r) where
     pub read_nop : r.token ≡ Nop → rest_at names l (16 - left) true at ≡ rest_at names l (16 - left) true r.next
     read_nop e = inv ∙ rest_nop names l i h r s (16 - left) true e
 
-    pub read_end : drop 1 (contents_at names l at) ≡ drop 1 (contents_at names l i) → r.token ≡ End → ReadsOn names l (16 - left) true at (Past r.next)
+    pub read_end : drop 1 (contents_at names l at) ≡ drop 1 (contents_at names l i) → r.token ≡ End → ReadsOn names l (16 - left) true at (Some r.next)
     unfolding answers
     read_end y e = record {
       is = inv ∙ rest_end names l i h r s (16 - left) true (omega arith) e;
       end = (omega (arith, s.forward h), (s.within, y ∙ left_end names l i h r s e));
     }
 
-    pub read_deep : (k : ℕ) → r.token ≡ Begin k → left ≡ 0 → ReadsOn names l (16 - left) true at Refused
+    pub read_deep : (k : ℕ) → r.token ≡ Begin k → left ≡ 0 → ReadsOn names l (16 - left) true at None
     read_deep k e z = refused (deep_refused names l i h r s (16 - left) true (omega arith) k e)
 
-    pub read_property : (m k : ℕ) → r.token ≡ Property m k → ReadsOn names l (16 - left) true at Refused
+    pub read_property : (m k : ℕ) → r.token ≡ Property m k → ReadsOn names l (16 - left) true at None
     read_property m k e = refused (late_property_refused names l i h r s (16 - left) m k e)
 
-    pub read_stop : r.token ≡ Stop → ReadsOn names l (16 - left) true at Refused
+    pub read_stop : r.token ≡ Stop → ReadsOn names l (16 - left) true at None
     read_stop e = refused (inner_stop_refused names l i h r s (16 - left) true (omega arith) e)
 
-    pub read_broken : r.token ≡ Broken → ReadsOn names l (16 - left) true at Refused
+    pub read_broken : r.token ≡ Broken → ReadsOn names l (16 - left) true at None
     read_broken e = refused (rest_broken names l i h r s (16 - left) true e)
 
-    module _ (k : ℕ) (e : r.token ≡ Begin k) (some : left ≡ 0 → ⊥) (child : Read) (c : ReadsOn names l (16 - (left - 1)) false r.next child) where
+    pub read_other : ((k : ℕ) → r.token ≡ Begin k → ⊥) → (r.token ≡ End → ⊥) → (r.token ≡ Nop → ⊥) → ReadsOn names l (16 - left) true at None
+    read_other b x n = by_token r.token (λ k e. absurd (b k e)) (λ e. absurd (x e)) read_property (λ e. absurd (n e)) read_stop read_broken
+
+    module _ (k : ℕ) (e : r.token ≡ Begin k) (some : left ≡ 0 → ⊥) (child : Option ℕ) (c : ReadsOn names l (16 - (left - 1)) false r.next child) where
       child_read : rest_at names l (16 - left) true at ≡ answers names l (16 - left) child
       child_read =
           let p : suc (16 - left) ≡ 16 - (left - 1) = omega arith in
           let q : 16 - (left - 1) - 1 ≡ 16 - left = omega arith in
           inv ∙ rest_begin names l i h r s (16 - left) true (omega arith) (omega arith) k e ∙ rw p (c.is ∙ rw q)
 
-      pub child_refused : child ≡ Refused → ReadsOn names l (16 - left) true at Refused
+      pub child_refused : child ≡ None → ReadsOn names l (16 - left) true at None
       unfolding answers
       child_refused z = record { is = child_read ∙ rw z refl; end = omega arith }
 
-      pub child_past : (x : ℕ) → child ≡ Past x → rest_at names l (16 - left) true at ≡ rest_at names l (16 - left) true x
+      pub child_past : (x : ℕ) → child ≡ Some x → rest_at names l (16 - left) true at ≡ rest_at names l (16 - left) true x
       unfolding answers
       child_past x z = child_read ∙ rw z refl
 
 -- where a node that was read ends, and what is left there
-module _ (names : ℕ) (l : List ℕ) (n : ℕ) (late : Bool) (at : ℕ) (r : Read) (x : ℕ) (c : ReadsOn names l n late at r) (e : r ≡ Past x) where
+module _ (names : ℕ) (l : List ℕ) (n : ℕ) (late : Bool) (at : ℕ) (r : Option ℕ) (x : ℕ) (c : ReadsOn names l n late at r) (e : r ≡ Some x) where
   pub past_forward : at ≤ x
   past_forward = (rw e at c.end).0
 
@@ -139,26 +162,20 @@ module _ (names : ℕ) (l : List ℕ) (n : ℕ) (late : Bool) (at : ℕ) (r : Re
   past_left = (rw e at c.end).1.1
 
 -- a node is its properties, and then its children
-pub node_read : (names : ℕ) (l : List ℕ) (left at b : ℕ) → left < 16 → Behind names l at b → (r : Read) → ReadsOn names l (16 - left) true b r
+pub node_read : (names : ℕ) (l : List ℕ) (left at b : ℕ) → left < 16 → Behind names l at b → (r : Option ℕ) → ReadsOn names l (16 - left) true b r
     → ReadsOn names l (16 - left) false at r
-node_read names l left at b h p (Past x) c = record {
+node_read names l left at b h p (Some x) c = record {
   is = p.is (16 - left) (omega arith) ∙ c.is;
   end = (omega (arith, p.forward, c.end.0), (c.end.1.0, p.left ∙ c.end.1.1));
 }
-node_read names l left at b h p Refused c = record { is = p.is (16 - left) (omega arith) ∙ c.is; end = omega arith }
+node_read names l left at b h p None c = record { is = p.is (16 - left) (omega arith) ∙ c.is; end = omega arith }
 
 -- each step goes forward
 module _ (x : Token) (l : List ℕ) (i : ℕ) (h : i < length l) (r : Step) (s : StepOf x l i r) where
-  pub step_less : length l - r.next < length l - i
-  step_less = omega (arith, s.forward h, s.within)
-
   pub step_on : (at : ℕ) → at ≤ i → at ≤ r.next
   step_on at g = omega (arith, s.forward h)
 
-  module _ (names n : ℕ) (late : Bool) (c : Read) (q : ReadsOn names l n late r.next c) (y : ℕ) (e : c ≡ Past y) where
-    pub past_less : length l - y < length l - i
-    past_less = omega (arith, s.forward h, past_forward names l n late r.next c y q e, past_within names l n late r.next c y q e)
-
+  module _ (names n : ℕ) (late : Bool) (c : Option ℕ) (q : ReadsOn names l n late r.next c) (y : ℕ) (e : c ≡ Some y) where
     pub past_on : (at : ℕ) → at ≤ i → at ≤ y
     past_on at g = omega (arith, s.forward h, past_forward names l n late r.next c y q e)
 
@@ -170,7 +187,7 @@ module _
     pub left_after_nop : r.token ≡ Nop → drop 1 (contents_at names l at) ≡ drop 1 (contents_at names l r.next)
     left_after_nop e = y ∙ ap (λ (x : List Content). drop 1 x) (left_nop names l i h r s e)
 
-    pub left_after_child : (k : ℕ) → r.token ≡ Begin k → (n : ℕ) (late : Bool) (c : Read) → ReadsOn names l n late r.next c → (x : ℕ) → c ≡ Past x
+    pub left_after_child : (k : ℕ) → r.token ≡ Begin k → (n : ℕ) (late : Bool) (c : Option ℕ) → ReadsOn names l n late r.next c → (x : ℕ) → c ≡ Some x
         → drop 1 (contents_at names l at) ≡ drop 1 (contents_at names l x)
     left_after_child k e n late c q x z =
         y ∙ left_begin names l i h r s k e ∙ ap (λ (x : List Content). drop 1 x) (past_left names l n late r.next c x q z)
@@ -206,33 +223,39 @@ module _ (names : ℕ) (l : List ℕ) (at i : ℕ) (inv : rest_at names l 0 true
     pub stop_broken : r.token ≡ Broken → false ≡ rest_at names l 0 true at
     stop_broken e = sym (inv ∙ rest_broken names l i h r s 0 true e)
 
+    pub stop_other : (r.token ≡ Nop → ⊥) → (r.token ≡ Stop → ⊥) → false ≡ rest_at names l 0 true at
+    stop_other n x = by_token r.token stop_begin stop_end stop_property (λ e. absurd (n e)) (λ e. absurd (x e)) stop_broken
+
 -- ---- the root
 
 module _ (names : ℕ) (l : List ℕ) (i : ℕ) (inv : rest_at names l 0 false 0 ≡ rest_at names l 0 false i) where
-  pub root_over : length l ≤ i → RootIs names l Refused
+  pub root_over : length l ≤ i → RootIs names l None
   root_over h = inv ∙ rest_none names l 0 false i h
 
   module _ (h : i < length l) (r : Step) (s : StepOf (token names (drop i l)) l i r) where
     pub root_nop : r.token ≡ Nop → rest_at names l 0 false 0 ≡ rest_at names l 0 false r.next
     root_nop e = inv ∙ rest_nop names l i h r s 0 false e
 
-    pub root_end : r.token ≡ End → RootIs names l Refused
+    pub root_end : r.token ≡ End → RootIs names l None
     root_end e = inv ∙ outer_end_refused names l i h r s false e
 
-    pub root_property : (m k : ℕ) → r.token ≡ Property m k → RootIs names l Refused
+    pub root_property : (m k : ℕ) → r.token ≡ Property m k → RootIs names l None
     root_property m k e = inv ∙ outer_property_refused names l i h r s false m k e
 
-    pub root_stop : r.token ≡ Stop → RootIs names l Refused
+    pub root_stop : r.token ≡ Stop → RootIs names l None
     root_stop e = inv ∙ early_stop_refused names l i h r s e
 
-    pub root_broken : r.token ≡ Broken → RootIs names l Refused
+    pub root_broken : r.token ≡ Broken → RootIs names l None
     root_broken e = inv ∙ rest_broken names l i h r s 0 false e
+
+    pub root_other : ((k : ℕ) → r.token ≡ Begin k → ⊥) → (r.token ≡ Nop → ⊥) → RootIs names l None
+    root_other b n = by_token r.token (λ k e. absurd (b k e)) root_end root_property (λ e. absurd (n e)) root_stop root_broken
 
     module _ (said : contents_at names l 0 ≡ contents_at names l i) where
       pub root_said : r.token ≡ Nop → contents_at names l 0 ≡ contents_at names l r.next
       root_said e = said ∙ left_nop names l i h r s e
 
-      pub root_begin : (k : ℕ) → r.token ≡ Begin k → RootIs names l (Past r.next)
+      pub root_begin : (k : ℕ) → r.token ≡ Begin k → RootIs names l (Some r.next)
       root_begin k e = record {
         is = inv ∙ rest_root names l i h r s k e;
         says = ap (λ (x : List Content). in_root (first x)) said ∙ in_root_lem names l i h r s k e;
@@ -241,32 +264,40 @@ module _ (names : ℕ) (l : List ℕ) (i : ℕ) (inv : rest_at names l 0 false 0
 
 -- ---- the whole
 
-module _ (strings : List ℕ) (names : ℕ) (e : names ≡ named strings) (l : List ℕ) (root : Read) (p : RootIs names l root) where
+module _ (strings : List ℕ) (names : ℕ) (e : names ≡ named strings) (l : List ℕ) (root : Option ℕ) (p : RootIs names l root) where
   whole : formed strings l ≡ rest_at names l 0 false 0
   unfolding formed rest_at
   whole = rw e refl
 
-  pub root_there : formed strings l ≡ true → root ≡ Refused → ⊥
-  root_there f z = false≢true (sym (rw z at p) ∙ sym whole ∙ f)
+  pub root_there : formed strings l ≡ true → IsSome root
+  root_there f = go root refl
+    where
+      go : (x : Option ℕ) → root ≡ x → IsSome x
+      go (Some at) z = refl
+      go None z = absurd (false≢true (sym (rw z at p) ∙ sym whole ∙ f))
 
-  pub no_root : root ≡ Refused → false ≡ formed strings l
-  no_root z = sym (whole ∙ rw z at p)
+  pub no_root : root ≡ None → formed strings l ≡ false
+  no_root z = whole ∙ rw z at p
 
-  module _ (at : ℕ) (z : root ≡ Past at) where
+  module _ (at : ℕ) (z : root ≡ Some at) where
     past : RootPast names l at
     past = rw z at p
 
-    pub root_within : at ≤ length l
-    root_within = past.within
+    pub root_is : formed strings l ≡ true → (t : Tree) → t.strings.now ≡ strings → t.structure.bytes.now ≡ l → t.structure.names ≡ names → t.root ≡ at
+        → RootOf strings l t
+    root_is f t a b c d = record {
+      strings_are = a;
+      bytes_are = b;
+      names = c ∙ e;
+      is = rw (c, d) past;
+      goes = rw (c, d) (sym past.is ∙ sym whole ∙ f);
+    }
 
-    pub root_is : formed strings l ≡ true → RootOf strings l (record { names = names; at = at })
-    root_is f = record { names = e; is = past; goes = sym past.is ∙ sym whole ∙ f }
-
-    module _ (node : Read) (q : ReadsOn names l 1 false at node) where
-      pub root_refused : node ≡ Refused → false ≡ formed strings l
+    module _ (node : Option ℕ) (q : ReadsOn names l 1 false at node) where
+      pub root_refused : node ≡ None → formed strings l ≡ false
       unfolding answers
-      root_refused y = sym (whole ∙ past.is ∙ q.is ∙ rw y refl)
+      root_refused y = whole ∙ past.is ∙ q.is ∙ rw y refl
 
-      pub root_past : (x : ℕ) → node ≡ Past x → (b : Bool) → b ≡ rest_at names l 0 true x → b ≡ formed strings l
+      pub root_past : (x : ℕ) → node ≡ Some x → formed strings l ≡ rest_at names l 0 true x
       unfolding answers
-      root_past x y b k = k ∙ sym (whole ∙ past.is ∙ q.is ∙ rw y refl)
+      root_past x y = whole ∙ past.is ∙ q.is ∙ rw y refl

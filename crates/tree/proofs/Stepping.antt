@@ -8,12 +8,15 @@ use lib.Dec.{leb, eqb}
 use lib.ListN.{length, drop, take, length-drop, length-take, drop_of_length-le}
 use lib.Seq.{drop-length, drop-drop}
 use borrow.Author.Tests.{lt-ltb, le-ltb, le-leb, lt-leb, ne_eqb}
+use Rattle.std.proofs.Common.{Option, Some, None, ◌==◌, position}
+use Rattle.std.proofs.lemmas.List.{take_all}
 use Rattle.tree.specs.Words.{word}
-use Rattle.tree.specs.Tokens.{to_zero, Token, end, nop, stop, broken, begin_of, property_of, plain_of, token_of, token, padded, size}
+use Rattle.tree.specs.Tokens.{to_zero, zero_ended, Token, begin, end, nop, stop, broken, begin_of, property_of, plain_of, token_of, token, padded, size}
 use Rattle.tree.specs.Steps.{shape, StepOf, Padded}
 use Rattle.tree.specs.declared.tokens.Token as d
-use Rattle.tree.specs.declared.tokens.Token.TheVariants.{Begin, End, Property, Nop, Stop, Broken}
+use Rattle.tree.specs.declared.tokens.Token.TheVariants.{Begin, Property, Broken}
 use Rattle.tree.specs.declared.tokens.Step.{Step}
+use Rattle.tree.proofs.Names.{zero_position}
 
 -- ---- padding
 
@@ -45,28 +48,41 @@ module _ (l : List ℕ) (at : ℕ) (h : at + 4 ≤ length l) where
   unfolding size
   step_broken x e = rw e (record { is = refl; rest = rest_is; forward = λ _. omega arith; within = h })
 
-  module _ (n : ℕ) (is : n ≡ length (to_zero (drop (at + 4) l))) where
-    name_is : n ≡ length (to_zero (drop 4 (drop at l)))
-    name_is = is ∙ ap (λ (m : List ℕ). length (to_zero m)) rest_is
+  module _ (r : Option ℕ) (found : r ≡ position (λ b. b == 0) (take (length l - (at + 4)) (drop (at + 4) l))) where
+    all_is : take (length l - (at + 4)) (drop (at + 4) l) ≡ drop 4 (drop at l)
+    all_is = take_all (length l - (at + 4)) (drop (at + 4) l) (omega (arith, length-drop (at + 4) l)) ∙ rest_is
 
-    pub begin_broken : length l - (at + 4) ≤ n → StepOf (begin_of (drop 4 (drop at l))) l at (record { token = Broken; next = at + 4 })
+    found_is : r ≡ cond (zero_ended (drop 4 (drop at l))) (Some (length (to_zero (drop 4 (drop at l))))) None
+    found_is = found ∙ ap (λ (m : List ℕ). position (λ b. b == 0) m) all_is ∙ zero_position (drop 4 (drop at l))
+
+    pub begin_broken : r ≡ None → StepOf (begin_of (drop 4 (drop at l))) l at (record { token = Broken; next = at + 4 })
     unfolding begin_of
-    begin_broken s =
-        step_broken _ (rw (le-ltb (length (to_zero (drop 4 (drop at l)))) (length (drop 4 (drop at l))) (omega (arith, name_is, rest_length))) refl)
+    begin_broken e = step_broken _ (go (zero_ended (drop 4 (drop at l))) (sym e ∙ found_is))
+      where
+        go : (b : Bool) → None ≡ cond b (Some (length (to_zero (drop 4 (drop at l))))) None → cond b (begin (to_zero (drop 4 (drop at l)))) broken ≡ broken
+        go true z = cc
+        go false z = refl
 
-    pub begin_whole : n < length l - (at + 4) → (r : ℕ) → Padded (length l) (at + 4) (n + 1) r
-        → StepOf (begin_of (drop 4 (drop at l))) l at (record { token = Begin n; next = r })
-    unfolding begin_of size
-    begin_whole s r p =
-        let k = padded (n + 1) in
-        let to : drop r l ≡ drop (4 + k) (drop at l) = p.rest l refl ∙ ap (λ (x : List ℕ). drop k x) rest_is ∙ drop-drop k 4 (drop at l) in
-        rw (lt-ltb (length (to_zero (drop 4 (drop at l)))) (length (drop 4 (drop at l))) (omega (arith, name_is, rest_length)))
-        (record {
-          is = ap Begin name_is;
-          rest = to ∙ ap (λ (x : ℕ). drop (4 + padded (x + 1)) (drop at l)) name_is;
-          forward = λ _. omega (arith, p.forward);
-          within = p.within;
-        })
+    module _ (n : ℕ) (e : r ≡ Some n) where
+      name_there : (zero_ended (drop 4 (drop at l)) ≡ true) × (n ≡ length (to_zero (drop 4 (drop at l))))
+      name_there = go (zero_ended (drop 4 (drop at l))) (sym e ∙ found_is)
+        where
+          go : (b : Bool) → Some n ≡ cond b (Some (length (to_zero (drop 4 (drop at l))))) None → (b ≡ true) × (n ≡ length (to_zero (drop 4 (drop at l))))
+          go true z = (refl, cc)
+          go false z = cc
+
+      pub begin_whole : (x : ℕ) → Padded (length l) (at + 4) (n + 1) x → StepOf (begin_of (drop 4 (drop at l))) l at (record { token = Begin n; next = x })
+      unfolding begin_of size
+      begin_whole x p =
+          let k = padded (n + 1) in
+          let to : drop x l ≡ drop (4 + k) (drop at l) = p.rest l refl ∙ ap (λ (y : List ℕ). drop k y) rest_is ∙ drop-drop k 4 (drop at l) in
+          rw name_there.0
+          (record {
+            is = ap Begin name_there.1;
+            rest = to ∙ ap (λ (y : ℕ). drop (4 + padded (y + 1)) (drop at l)) name_there.1;
+            forward = λ _. omega (arith, p.forward);
+            within = p.within;
+          })
 
   module _ (names : ℕ) where
     pub property_short : length l - (at + 4) < 8 → StepOf (property_of names (drop 4 (drop at l))) l at (record { token = Broken; next = at + 4 })
@@ -115,22 +131,6 @@ module _ (l : List ℕ) (at : ℕ) (h : at + 4 ≤ length l) where
             })
 
 -- ---- a token that is its number alone
-
-pub plain_end : (w : ℕ) → w ≡ 2 → End ≡ shape (plain_of w)
-unfolding plain_of
-plain_end w e = rw e
-
-pub plain_nop : (w : ℕ) → w ≡ 4 → Nop ≡ shape (plain_of w)
-unfolding plain_of
-plain_nop w e = rw e
-
-pub plain_stop : (w : ℕ) → w ≡ 9 → Stop ≡ shape (plain_of w)
-unfolding plain_of
-plain_stop w e = rw e
-
-pub plain_broken : (w : ℕ) → (w ≡ 2 → ⊥) → (w ≡ 4 → ⊥) → (w ≡ 9 → ⊥) → Broken ≡ shape (plain_of w)
-unfolding plain_of
-plain_broken w a b c = rw (ne_eqb w 2 a, ne_eqb w 4 b, ne_eqb w 9 c)
 
 plain_size : (w : ℕ) → size (plain_of w) ≡ 4
 unfolding plain_of size

@@ -1,16 +1,15 @@
 -- What the steps of the reader answer: a token and the next place, what is left to follow, what is left of the open nodes. Only inner contracts and proofs
 -- cite this module. Assumes nothing.
-use Rattle.std.specs.Prelude.{ℕ, ◌+◌, ◌-◌, ◌≤◌, ◌<◌, ◌≡◌, Bool, true, false, List, [], ◌∷◌, length, drop, take}
+use Rattle.std.specs.Prelude.{ℕ, ◌+◌, ◌-◌, ◌≤◌, ◌<◌, ◌≡◌, Bool, true, false, List, [], ◌∷◌, Option, Some, None, length, drop, take}
 use Rattle.tree.specs.Tokens as t
 use Rattle.tree.specs.Form.{follows, named}
 use Rattle.tree.specs.Content.{Content, nothing, property, node, contents, first, in_root}
 use Rattle.tree.specs.Places.{located}
+use Rattle.tree.specs.Header.{structure, strings}
 use Rattle.tree.specs.declared.tokens.Token.{Token}
 use Rattle.tree.specs.declared.tokens.Token.TheVariants.{Begin, End, Property, Nop, Stop, Broken}
 use Rattle.tree.specs.declared.tokens.Step.{Step}
-use Rattle.tree.specs.declared.reader.Read.{Read}
-use Rattle.tree.specs.declared.reader.Read.TheVariants.{Past, Refused}
-use Rattle.tree.specs.declared.reader.Root.{Root}
+use Rattle.tree.specs.declared.reader.Tree.{Tree}
 
 -- a token by its numbers alone
 abbrev pub shape : t.Token → Token
@@ -33,9 +32,9 @@ unfoldable pub rest_at : ℕ → List ℕ → ℕ → Bool → ℕ → Bool
 rest_at names l n late at = follows n late (t.tokens names (drop at l))
 
 -- past a node, with n nodes open then
-unfoldable pub answers : ℕ → List ℕ → ℕ → Read → Bool
-answers names l n (Past e) = rest_at names l n true e
-answers names l n Refused = false
+unfoldable pub answers : ℕ → List ℕ → ℕ → Option ℕ → Bool
+answers names l n (Some e) = rest_at names l n true e
+answers names l n None = false
 
 -- what is left of each open node from `at` on, each value by where it stands
 unfoldable pub contents_at : ℕ → List ℕ → ℕ → List Content
@@ -73,11 +72,11 @@ abbrev pub content_at : ℕ → List ℕ → ℕ → Content
 content_at names l at = valued l (places_at names l at)
 
 -- where the node ends, and that nothing of it is left there
-abbrev pub ends : ℕ → List ℕ → ℕ → Read → Type 0
-ends names l at (Past e) = (at ≤ e) × ((e ≤ length l) × (drop 1 (contents_at names l at) ≡ contents_at names l e))
-ends names l at Refused = 0 ≤ length l
+abbrev pub ends : ℕ → List ℕ → ℕ → Option ℕ → Type 0
+ends names l at (Some e) = (at ≤ e) × ((e ≤ length l) × (drop 1 (contents_at names l at) ≡ contents_at names l e))
+ends names l at None = 0 ≤ length l
 
-pub record ReadsOn (names : ℕ) (l : List ℕ) (n : ℕ) (late : Bool) (at : ℕ) (r : Read) : Type 0 where
+pub record ReadsOn (names : ℕ) (l : List ℕ) (n : ℕ) (late : Bool) (at : ℕ) (r : Option ℕ) : Type 0 where
   pub is : rest_at names l n late at ≡ answers names l (n - 1) r
   pub end : ends names l at r
 
@@ -92,6 +91,7 @@ pub record Behind (names : ℕ) (l : List ℕ) (at r : ℕ) : Type 0 where
   pub is : (n : ℕ) → 0 < n → rest_at names l n false at ≡ rest_at names l n true r
   pub left : drop 1 (contents_at names l at) ≡ drop 1 (contents_at names l r)
   pub nodes : strip (places_at names l at) ≡ places_at names l r
+  pub stands : t.token names (drop r l) ≡ t.nop → ⊥
   pub forward : at ≤ r
   pub within : r ≤ length l
 
@@ -107,12 +107,19 @@ pub record RootPast (names : ℕ) (l : List ℕ) (at : ℕ) : Type 0 where
   pub says : in_root (places_at names l 0) ≡ places_at names l at
   pub within : at ≤ length l
 
-abbrev pub RootIs : ℕ → List ℕ → Read → Type 0
-RootIs names l (Past at) = RootPast names l at
-RootIs names l Refused = rest_at names l 0 false 0 ≡ false
+abbrev pub RootIs : ℕ → List ℕ → Option ℕ → Type 0
+RootIs names l (Some at) = RootPast names l at
+RootIs names l None = rest_at names l 0 false 0 ≡ false
 
--- the root of a block that is a tree's
-pub record RootOf (strings l : List ℕ) (r : Root) : Type 0 where
-  pub names : r.names ≡ named strings
-  pub is : RootPast r.names l r.at
-  pub goes : rest_at r.names l 1 false r.at ≡ true
+-- the tree that a block is, with its strings block
+pub record RootOf (strings l : List ℕ) (t : Tree) : Type 0 where
+  pub strings_are : t.strings.now ≡ strings
+  pub bytes_are : t.structure.bytes.now ≡ l
+  pub names : t.structure.names ≡ named strings
+  pub is : RootPast t.structure.names l t.root
+  pub goes : rest_at t.structure.names l 1 false t.root ≡ true
+
+-- the tree in bytes that have the form
+pub record TreeOf (tree : List ℕ) (t : Tree) : Type 0 where
+  pub root : RootOf (strings tree) (structure tree) t
+  pub short : length t.structure.bytes.now < 4294967296

@@ -1,12 +1,13 @@
 // The tokens of a structure block. `names` is how many places of the strings block begin a name that ends inside it.
-ghost use Rattle.std.specs.Prelude.{◌≡◌, ◌+◌, ◌-◌, ◌≤◌, length, drop};
-ghost use Rattle.tree.specs.Tokens.{to_zero, begin_of, property_of, plain_of, token};
+ghost use Rattle.std.specs.Prelude.{◌≡◌, ◌==◌, ◌+◌, ◌≤◌, position, length, drop};
+ghost use Rattle.tree.specs.Tokens.{begin_of, property_of, plain_of, token};
 ghost use Rattle.tree.specs.Steps.{shape, StepOf, Padded};
 
+use super::reader::Structure;
 use super::words::word_at;
 
 // A token by its numbers: the length of a node's name; the place of a property's name and the length of its value.
-#[derive(Drop)]
+#[derive(Clone, Copy)]
 pub enum Token {
     Begin(usize),
     End,
@@ -17,25 +18,17 @@ pub enum Token {
 }
 
 // A token, and where the next one begins.
-#[derive(Drop)]
+#[derive(Clone, Copy)]
 pub struct Step {
     pub token: Token,
     pub next: usize,
 }
 
-// How many bytes stand before the first zero byte from `at` on.
-fn name_length(s: &[u8], at: usize) -> usize
-    requires { at ≤ length s.now }
-    ensures { (result ≡ length (to_zero (drop at s.now))) × (result ≤ length s.now - at) }
+// How many bytes stand before the first zero byte, where there is one.
+fn name_length(s: &[u8]) -> Option<usize>
+    ensures { result ≡ position (λ b. b == 0) s.now }
 {
-    let mut i = at;
-    while i < s.len() {
-        if s[i] == 0 {
-            return i - at;
-        }
-        i += 1;
-    }
-    i - at
+    s.iter().position(|b| *b == 0)
 }
 
 // The place behind n bytes from `at` and their padding, or the end.
@@ -51,60 +44,8 @@ fn behind(len: usize, at: usize, n: usize) -> usize
     end + over
 }
 
-// A node's begin: `at` is where the token begins.
-fn begin_at(s: &[u8], at: usize) -> Step
-    requires { at + 4 ≤ length s.now }
-    ensures { StepOf (begin_of (drop 4 (drop at s.now))) s.now at result }
-{
-    let from = at + 4;
-    let len = s.len();
-    let n = name_length(s, from);
-    if len - from <= n {
-        return Step {
-            token: Token::Broken,
-            next: from,
-        };
-    }
-    Step {
-        token: Token::Begin(n),
-        next: behind(len, from, n + 1),
-    }
-}
-
-// A property.
-fn property_at(names: usize, s: &[u8], at: usize) -> Step
-    requires { at + 4 ≤ length s.now }
-    ensures { StepOf (property_of names (drop 4 (drop at s.now))) s.now at result }
-{
-    let from = at + 4;
-    let len = s.len();
-    if len - from < 8 {
-        return Step {
-            token: Token::Broken,
-            next: from,
-        };
-    }
-    let n = word_at(s, from) as usize;
-    let name = word_at(s, from + 4) as usize;
-    if len - from - 8 < n {
-        return Step {
-            token: Token::Broken,
-            next: from,
-        };
-    }
-    if names <= name {
-        return Step {
-            token: Token::Broken,
-            next: from,
-        };
-    }
-    Step {
-        token: Token::Property(name, n),
-        next: behind(len, from + 8, n),
-    }
-}
-
 // A token that is its number alone.
+#[tactic(auto, unfolding(crate::specs::Tokens::plain_of))]
 fn plain(w: u32) -> Token
     ensures { result ≡ shape (plain_of w) }
 {
@@ -116,27 +57,71 @@ fn plain(w: u32) -> Token
     }
 }
 
-// The token at `at`.
-pub fn token_at(names: usize, s: &[u8], at: usize) -> Step
-    requires { at ≤ length s.now }
-    ensures { StepOf (token names (drop at s.now)) s.now at result }
-{
-    let len = s.len();
-    if len - at < 4 {
-        return Step {
+impl Step {
+    // No whole token.
+    fn broken(next: usize) -> Step
+        ensures { result ≡ record { token = Token.Broken; next = next } }
+    {
+        Step {
             token: Token::Broken,
-            next: len,
+            next,
+        }
+    }
+}
+
+impl<'a> Structure<'a> {
+    // A node's begin: `at` is where the token begins.
+    fn begin_at(&self, at: usize) -> Step
+        requires { at + 4 ≤ length self.now.bytes.now }
+        ensures { StepOf (begin_of (drop 4 (drop at self.now.bytes.now))) self.now.bytes.now at result }
+    {
+        let from = at + 4;
+        let Some(n) = name_length(&self.bytes[from..]) else {
+            return Step::broken(from);
         };
+        Step {
+            token: Token::Begin(n),
+            next: behind(self.bytes.len(), from, n + 1),
+        }
     }
-    let w = word_at(s, at);
-    if w == 1 {
-        return begin_at(s, at);
+
+    // A property.
+    fn property_at(&self, at: usize) -> Step
+        requires { at + 4 ≤ length self.now.bytes.now }
+        ensures { StepOf (property_of self.now.names (drop 4 (drop at self.now.bytes.now))) self.now.bytes.now at result }
+    {
+        let from = at + 4;
+        let len = self.bytes.len();
+        if len - from < 8 {
+            return Step::broken(from);
+        }
+        let n = word_at(self.bytes, from) as usize;
+        let name = word_at(self.bytes, from + 4) as usize;
+        if len - from - 8 < n || self.names <= name {
+            return Step::broken(from);
+        }
+        Step {
+            token: Token::Property(name, n),
+            next: behind(len, from + 8, n),
+        }
     }
-    if w == 3 {
-        return property_at(names, s, at);
-    }
-    Step {
-        token: plain(w),
-        next: at + 4,
+
+    // The token at `at`.
+    pub fn token_at(&self, at: usize) -> Step
+        requires { at ≤ length self.now.bytes.now }
+        ensures { StepOf (token self.now.names (drop at self.now.bytes.now)) self.now.bytes.now at result }
+    {
+        let len = self.bytes.len();
+        if len - at < 4 {
+            return Step::broken(len);
+        }
+        match word_at(self.bytes, at) {
+            1 => self.begin_at(at),
+            3 => self.property_at(at),
+            w => Step {
+                token: plain(w),
+                next: at + 4,
+            },
+        }
     }
 }

@@ -3,16 +3,13 @@
 
 use block::LENGTH;
 use memblock::{memblock_fresh, memblock_intake_tree};
-use program::{read_argument, say_answer, say_error};
+use program::{Program, say_answer};
 
-// One byte more than the longest file that is read.
-const ROOM: usize = 1048577;
+// The longest file that is taken in.
+const LONGEST: usize = 1048576;
 
-fn room() -> [u8; ROOM] {
-    [0u8; ROOM]
-}
-
-// Takes a tree in and prints what came of it.
+// Takes a tree in and prints what came of it, as `report` does with a report: one function for both would take the intake as a closure, with a law of it that
+// the block is left good, and be longer than these lines.
 fn take_in(rt: &impl Print, tree: &[u8]) {
     let mut block = [0u8; LENGTH];
     memblock_fresh(&mut block);
@@ -21,15 +18,16 @@ fn take_in(rt: &impl Print, tree: &[u8]) {
 }
 
 fn main(rt: HostRuntime) {
-    let mut tree = room();
-    let input = read_argument(&rt, b"treereport", &mut tree);
-    if !input.read {
+    let program = Program {
+        rt: &rt,
+        name: "treereport",
+    };
+    let Some(tree) = program.read_argument(LONGEST + 1) else {
+        return;
+    };
+    if LONGEST < tree.len() {
+        let _ = eprintln!(&rt; "{}: the file is longer than {LONGEST} bytes", program.name);
         return;
     }
-    let n = input.count;
-    if n == ROOM {
-        say_error(&rt, b"treereport: the file is longer than 1048576 bytes\n");
-        return;
-    }
-    take_in(&rt, &tree[..n]);
+    take_in(&rt, &tree);
 }

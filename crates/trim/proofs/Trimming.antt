@@ -1,4 +1,5 @@
 -- Trim, record by record: what is left of each, and of the list. Assumes nothing.
+use Rattle.std.proofs.Common.{Option, Some, None}
 use Prim.Native.Nat.{ℕ, zero, suc, ◌+◌, ◌*◌, ◌-◌, ◌/◌, ◌≤◌, ◌<◌}
 use mathlib.Core.Path.{◌≡◌, sym, ap, ◌∙◌}
 use mathlib.Core.Bool.{true}
@@ -10,8 +11,6 @@ use lib.Seq.{sets, drop-drop}
 use borrow.Author.Tests.{lt-ltb, le-ltb}
 use Rattle.address.specs.declared.Address.{Address}
 use Rattle.address.specs.declared.Size.{Size}
-use Rattle.address.specs.declared.CheckedAddress.{CheckedAddress}
-use Rattle.address.specs.declared.CheckedAddress.TheVariants.{At, Outside}
 use Rattle.address.specs.Numbers.{address, up, down, power_of_two}
 use Rattle.address.proofs.Checked.{address_at, address_outside}
 use Rattle.address.proofs.Rounding.{down_le}
@@ -27,8 +26,6 @@ use Rattle.regions.specs.Bytes.{read_region, region_bytes, read_regions, table_b
 use Rattle.regions.proofs.Rises.{Rises, next, Rises-rises}
 use Rattle.regions.proofs.RoundTrip.{rises_end}
 use Rattle.regions.proofs.Records.{Fit, region_bytes_length, put_here, put_before, read_regions_snoc, read_regions_rest, read_regions_end, read_regions_length}
-use Rattle.trim.specs.declared.Rounded.{Rounded}
-use Rattle.trim.specs.declared.Rounded.TheVariants.{Left, Nothing}
 use Rattle.records.specs.declared.table.Tally.{Tally}
 use Rattle.records.specs.Checks.{all_zeros}
 use Rattle.records.specs.Steps.{Table, Whole, put}
@@ -52,43 +49,35 @@ record-high l n i r t h e = rw e (high_at_lem i n l 0 Absent (table_rises l n t)
 
 -- ---- one record
 
-module _ (r : Region) (k : Size) (pow : power_of_two k.0 ≡ true) (h : end r ≤ top) (x : CheckedAddress) (ex : x ≡ address (up r.base.0 k.0)) where
-  pub round_past : x ≡ Outside → left_of Nothing ≡ round_one k.0 r
+module _ (r : Region) (k : Size) (pow : power_of_two k.0 ≡ true) (h : end r ≤ top) (x : Option Address) (ex : x ≡ address (up r.base.0 k.0)) where
+  pub round_past : x ≡ None → left_of None ≡ round_one k.0 r
   round_past o =
       let l : down (end r) k.0 ≤ up r.base.0 k.0 =
       omega (arith, address_outside (up r.base.0 k.0) x ex o, down_le (end r) k.0 (power_some k.0 pow), top_is) in
       rw (le-ltb (up r.base.0 k.0) (down (end r) k.0) l)
 
-  module _ (b : Address) (eb : x ≡ At b) (y : CheckedAddress) (ey : y ≡ address (end r)) where
-    pub round_end : y ≡ Outside → left_of Nothing ≡ round_one k.0 r
-    round_end o = absurd (omega (arith, address_outside (end r) y ey o, top_is))
+  module _ (b : Address) (eb : x ≡ Some b) (e : Address) (ee : e.0 ≡ end r) (p : Address) (ep : p.0 ≡ down e.0 k.0) where
+    base_is : b.0 ≡ up r.base.0 k.0
+    base_is = (address_at (up r.base.0 k.0) x b ex eb).0
 
-    module _ (e : Address) (ee : y ≡ At e) (p : Address) (ep : p.0 ≡ down e.0 k.0) where
-      base_is : b.0 ≡ up r.base.0 k.0
-      base_is = (address_at (up r.base.0 k.0) x b ex eb).0
+    past_is : p.0 ≡ down (end r) k.0
+    past_is = ep ∙ ap (λ n. down n k.0) ee
 
-      past_is : p.0 ≡ down (end r) k.0
-      past_is = ep ∙ ap (λ (n : ℕ). down n k.0) (address_at (end r) y e ey ee).0
+    pub round_none : p.0 ≤ b.0 → left_of None ≡ round_one k.0 r
+    round_none l = rw (← base_is, ← past_is, le-ltb b.0 p.0 l)
 
-      pub round_none : p.0 ≤ b.0 → left_of Nothing ≡ round_one k.0 r
-      round_none l = rw (← base_is, ← past_is, le-ltb b.0 p.0 l)
-
-      pub round_left : (s : Size) → s.0 ≡ p.0 - b.0 → b.0 < p.0 → left_of (Left (record { base = b; size = s; tag = r.tag })) ≡ round_one k.0 r
-      round_left s es l = rw (← base_is, ← past_is, lt-ltb b.0 p.0 l, ← es)
+    pub round_left : (s : Size) → s.0 ≡ p.0 - b.0 → b.0 < p.0 → left_of (Some (record { base = b; size = s; tag = r.tag })) ≡ round_one k.0 r
+    round_left s es l = rw (← base_is, ← past_is, lt-ltb b.0 p.0 l, ← es)
 
 -- ---- the list
 
--- appended to the n records of o
-module _ (o : List ℕ) (n : ℕ) (x : Rounded) where
-  pub keep_none : x ≡ Nothing → read_regions n o ≡ read_regions n o ++ left_of x
-  keep_none e = rw e (sym (append-nil (read_regions n o)))
+-- one record appended to the n records of o
+pub kept_list : (o : List ℕ) (n : ℕ) (r : Region) → Fit r → (o' : List ℕ) → o' ≡ sets o (24 * n) (region_bytes r) → 24 * n + 24 ≤ length o
+    → read_regions (n + 1) o' ≡ read_regions n o ++ (r ∷ [])
+kept_list o n r f o' p a = rw p (rw (read_regions_snoc, put_before o (24 * n) r a n (omega arith), put_here o (24 * n) r a f))
 
-  pub keep_left : (r : Region) → x ≡ Left r → Fit r → (o' : List ℕ) → o' ≡ sets o (24 * n) (region_bytes r) → 24 * n + 24 ≤ length o
-      → read_regions (n + 1) o' ≡ read_regions n o ++ left_of x
-  keep_left r e f o' p a = rw (e, p) (rw (read_regions_snoc, put_before o (24 * n) r a n (omega arith), put_here o (24 * n) r a f))
-
-  pub keep_rest : (r : Region) (o' : List ℕ) → o' ≡ sets o (24 * n) (region_bytes r) → drop (24 * n + 24) o' ≡ drop (24 * n + 24) o
-  keep_rest r o' p = ap (drop (24 * n + 24)) p ∙ drop_sets (region_bytes r) o (24 * n + 24) (24 * n) (omega (arith, region_bytes_length r))
+pub kept_rest : (o : List ℕ) (n : ℕ) (r : Region) (o' : List ℕ) → o' ≡ sets o (24 * n) (region_bytes r) → drop (24 * n + 24) o' ≡ drop (24 * n + 24) o
+kept_rest o n r o' p = ap (drop (24 * n + 24)) p ∙ drop_sets (region_bytes r) o (24 * n + 24) (24 * n) (omega (arith, region_bytes_length r))
 
 -- what is written does not reach the records that are still to come
 pub rest_kept : (t₀ t t' : List ℕ) (n i : ℕ) → n ≤ i → drop (24 * i) t ≡ drop (24 * i) t₀ → drop (24 * n + 24) t' ≡ drop (24 * n + 24) t → drop (24 * (i + 1)) t' ≡ drop (24 * (i + 1)) t₀
@@ -113,11 +102,11 @@ module _ (k : ℕ) (l : List ℕ) (n : ℕ) where
     unfolding round_each
     round_done h = sym (append-nil (read_regions m o)) ∙ rw (read_regions_end i n (drop (24 * i) l) h) at inv
 
-    module _ (r : Region) (h : i < n) (e : r ≡ read_region (drop (24 * i) l)) (x : Rounded) (q : left_of x ≡ round_one k r) where
+    module _ (r : Region) (h : i < n) (e : r ≡ read_region (drop (24 * i) l)) (ys : List Region) (q : ys ≡ round_one k r) where
       rest : read_regions (n - i) (drop (24 * i) l) ≡ r ∷ read_regions (n - (i + 1)) (drop (24 * (i + 1)) l)
       rest = rw e (read_regions_rest i n l h)
 
-      pub round_next : (o' : List ℕ) (m' : ℕ) → read_regions m' o' ≡ read_regions m o ++ left_of x
+      pub round_next : (o' : List ℕ) (m' : ℕ) → read_regions m' o' ≡ read_regions m o ++ ys
           → read_regions m' o' ++ round_each k (read_regions (n - (i + 1)) (drop (24 * (i + 1)) l)) ≡ round_each k (read_regions n l)
       unfolding round_each
       round_next o' m' p = rw (p, q, append_assoc) (rw rest at inv)
@@ -127,10 +116,10 @@ module _ (k : ℕ) (t₀ : List ℕ) (n : ℕ) (t : List ℕ) (i : ℕ) (d : dro
   pub over_high : Table t₀ n → end r ≤ top
   over_high w = record-high t₀ n i r w h (e ∙ ap read_region d)
 
-  pub over_next : (m : ℕ) → read_regions m t ++ round_each k (read_regions (n - i) (drop (24 * i) t₀)) ≡ round_each k (read_regions n t₀) → (x : Rounded) → left_of x ≡ round_one k r
-      → (t' : List ℕ) (m' : ℕ) → read_regions m' t' ≡ read_regions m t ++ left_of x
+  pub over_next : (m : ℕ) → read_regions m t ++ round_each k (read_regions (n - i) (drop (24 * i) t₀)) ≡ round_each k (read_regions n t₀) → (ys : List Region) → ys ≡ round_one k r
+      → (t' : List ℕ) (m' : ℕ) → read_regions m' t' ≡ read_regions m t ++ ys
       → read_regions m' t' ++ round_each k (read_regions (n - (i + 1)) (drop (24 * (i + 1)) t₀)) ≡ round_each k (read_regions n t₀)
-  over_next m inv x q t' m' p = round_next k t₀ n t m i inv r h (e ∙ ap read_region d) x q t' m' p
+  over_next m inv ys q t' m' p = round_next k t₀ n t m i inv r h (e ∙ ap read_region d) ys q t' m' p
 
 pub over_end : (t₀ t : List ℕ) (n i : ℕ) → n ≤ i → i ≤ n → drop (24 * i) t ≡ drop (24 * i) t₀ → drop (24 * n) t ≡ drop (24 * n) t₀
 over_end t₀ t n i a b d = let e : i ≡ n = omega arith in rw e at d

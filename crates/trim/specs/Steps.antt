@@ -1,16 +1,14 @@
 -- What trim leaves of a record and of a table. Only inner contracts and proofs cite this module. Assumes nothing.
-use Rattle.std.specs.Prelude.{ℕ, ◌/◌, ◌≡◌, List, [], ◌∷◌, length}
+use Rattle.std.specs.Prelude.{ℕ, ◌/◌, ◌≡◌, List, [], ◌∷◌, length, Option, Some, None}
 use Rattle.regions.specs.declared.Region.{Region}
 use Rattle.regions.specs.Bytes.{table_bytes}
 use Rattle.records.specs.declared.table.Tally.{Tally}
 use Rattle.records.specs.Totals.{tally}
-use Rattle.trim.specs.declared.Rounded.{Rounded}
-use Rattle.trim.specs.declared.Rounded.TheVariants.{Left, Nothing}
 
 -- what is left of a record, as a list
-abbrev pub left_of : Rounded → List Region
-left_of (Left r) = r ∷ []
-left_of Nothing = []
+abbrev pub left_of : Option Region → List Region
+left_of (Some r) = r ∷ []
+left_of None = []
 
 -- a table of bytes t that now holds the list xs has the bytes e, and y is answered
 pub record Trimmed (t e : List ℕ) (xs : List Region) (y : Tally) : Type 0 where

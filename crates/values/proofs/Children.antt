@@ -1,59 +1,15 @@
 -- The walks over the nodes in a node: what holds of all, from where the walk stands. Assumes nothing.
-use Prim.Native.Nat.{ℕ, ◌+◌, ◌-◌, ◌≤◌, ◌<◌}
-use mathlib.Core.Path.{◌≡◌, refl, sym, ap, ◌∙◌}
-use mathlib.Core.Bool.{Bool, true, false, cond, ◌&&◌}
-use mathlib.Core.List.{List, [], ◌∷◌, ◌++◌}
-use native.Mathlib.Omega.{arith}
-use lib.ListN.{length, take, drop}
+use Rattle.std.proofs.Common.{◌≡◌, ℕ, Bool, true, false, ◌&&◌, cond, List, [], ◌∷◌, ◌++◌, refl, sym, ap, ◌∙◌}
 use Rattle.tree.specs.Content.{Content, nothing, property, node}
-use Rattle.tree.specs.Steps.{rest_at, content_at, strip}
+use Rattle.tree.specs.Steps.{strip}
 use Rattle.tree.proofs.Booleans.{both}
 use Rattle.lookup.specs.Values.{same}
-use Rattle.lookup.specs.Steps.{next_is}
-use Rattle.lookup.specs.declared.Next.{Next}
-use Rattle.lookup.specs.declared.Next.TheVariants.{Node, Last}
 use Rattle.values.specs.Names.{reg, reserved_memory}
 use Rattle.values.specs.Values.{Get, whole_entries}
-use Rattle.values.specs.Steps.{memory_ok, reserved_ok, child_ok, children_ok}
-
--- ---- where the next node stands
-
-module _ (names : ℕ) (l : List ℕ) (left i : ℕ) (r : Next) (k : next_is names l left i r) where
-  last_none : r ≡ Last → strip (content_at names l i) ≡ nothing
-  last_none e = rw e at k
-
-  module _ (a n inner after : ℕ) (e : r ≡ Node a n inner after) where
-    next_is_lem : strip (content_at names l i) ≡ node (take n (drop a l)) (content_at names l inner) (content_at names l after)
-    next_is_lem = (rw e at k).0
-
-    inner_goes : rest_at names l (17 - left) false inner ≡ true
-    inner_goes = (rw e at k).1
-
-    after_goes : rest_at names l (16 - left) false after ≡ true
-    after_goes = (rw e at k).2
-
-    pub name_within : a + n ≤ length l
-    name_within = (rw e at k).4
-
-    pub inner_within : inner ≤ length l
-    inner_within = (rw e at k).5
-
-    pub after_within : after ≤ length l
-    after_within = (rw e at k).7
-
-    pub after_less : i ≤ length l → length l - after < length l - i
-    after_less h = let q = rw e at k in omega (arith, q.6, q.7)
-
--- in a /reserved-memory, and in the root
-pub reserved_goes : (names : ℕ) (l : List ℕ) (i : ℕ) (r : Next) → next_is names l 14 i r → (a n inner after : ℕ) → r ≡ Node a n inner after → rest_at names l 2 false after ≡ true
-reserved_goes names l = after_goes names l 14
-
-module _ (names : ℕ) (l : List ℕ) (i : ℕ) (r : Next) (k : next_is names l 15 i r) (a n inner after : ℕ) (e : r ≡ Node a n inner after) where
-  pub child_goes : rest_at names l 2 false inner ≡ true
-  child_goes = inner_goes names l 15 i r k a n inner after e
-
-  pub children_goes : rest_at names l 1 false after ≡ true
-  children_goes = after_goes names l 15 i r k a n inner after e
+use Rattle.values.specs.Steps.{stands, node_at, First, FirstChild, FirstBelow, memory_ok, reserved_ok, child_ok, children_ok}
+use Rattle.values.specs.declared.Trees.{Trees}
+use Rattle.values.specs.declared.Child.{Child}
+use Rattle.values.specs.declared.Node as n
 
 -- ---- what is gathered node by node
 
@@ -70,91 +26,62 @@ module _ {A : Type 0} (none : A) (join : A → A → A) (all : Content → A) (o
   on_strip (property at value c) = w.on_property at value c ∙ on_strip c
   on_strip (node name inner c) = refl
 
-  module _ (names : ℕ) (l : List ℕ) (left i : ℕ) (r : Next) (k : next_is names l left i r) where
-    pub gathered_last : r ≡ Last → all (content_at names l i) ≡ none
-    gathered_last e = on_strip (content_at names l i) ∙ ap all (last_none names l left i r k e) ∙ w.on_nothing
+  module _ (t : Trees) (at : ℕ) where
+    pub gathered_last : strip (stands t at) ≡ nothing → all (stands t at) ≡ none
+    gathered_last e = on_strip (stands t at) ∙ ap all e ∙ w.on_nothing
 
-    pub gathered_next : (a n inner after : ℕ) → r ≡ Node a n inner after
-        → all (content_at names l i) ≡ join (one (take n (drop a l)) (content_at names l inner)) (all (content_at names l after))
-    gathered_next a n inner after e =
-        on_strip (content_at names l i) ∙ ap all (next_is_lem names l left i r k a n inner after e)
-        ∙ w.on_node (take n (drop a l)) (content_at names l inner) (content_at names l after)
+    pub gathered_next : (n : ℕ) (name : List ℕ) (inner after : ℕ) → First t n at name inner after
+        → all (stands t at) ≡ join (one name (stands t inner)) (all (stands t after))
+    gathered_next n name inner after f = on_strip (stands t at) ∙ ap all f.is ∙ w.on_node name (stands t inner) (stands t after)
 
 -- ---- a test of each node
 
 abbrev Tested : (Content → Bool) → (List ℕ → Content → Bool) → Type 0
 Tested all one = Gathered true ◌&&◌ all one
 
-module _ (all : Content → Bool) (one : List ℕ → Content → Bool) (w : Tested all one) (names : ℕ) (l : List ℕ) (left i : ℕ) (r : Next)
-    (k : next_is names l left i r) (whole : Bool) (inv : whole ≡ all (content_at names l i)) where
-  test_last : r ≡ Last → true ≡ whole
-  test_last e = sym (inv ∙ gathered_last true ◌&&◌ all one w names l left i r k e)
+module _ (all : Content → Bool) (one : List ℕ → Content → Bool) (w : Tested all one) (t : Trees) (at : ℕ) (whole : Bool) (inv : whole ≡ all (stands t at)) where
+  test_last : strip (stands t at) ≡ nothing → true ≡ whole
+  test_last e = sym (inv ∙ gathered_last true ◌&&◌ all one w t at e)
 
-  module _ (a n inner after : ℕ) (e : r ≡ Node a n inner after) where
-    test_one : whole ≡ one (take n (drop a l)) (content_at names l inner) && all (content_at names l after)
-    test_one = inv ∙ gathered_next true ◌&&◌ all one w names l left i r k a n inner after e
+  module _ (n : ℕ) (name : List ℕ) (inner after : ℕ) (f : First t n at name inner after) where
+    test_one : whole ≡ one name (stands t inner) && all (stands t after)
+    test_one = inv ∙ gathered_next true ◌&&◌ all one w t at n name inner after f
 
-    module _ (t : Bool) (p : t ≡ one (take n (drop a l)) (content_at names l inner)) where
-      test_bad : t ≡ false → false ≡ whole
-      test_bad f = sym (test_one ∙ rw (← p, f) refl)
+    module _ (b : Bool) (p : b ≡ one name (stands t inner)) where
+      test_bad : b ≡ false → false ≡ whole
+      test_bad e = sym (test_one ∙ rw (← p, e) refl)
 
-      test_on : t ≡ true → whole ≡ all (content_at names l after)
-      test_on f = test_one ∙ rw (← p, f) refl
+      test_on : b ≡ true → whole ≡ all (stands t after)
+      test_on e = test_one ∙ rw (← p, e) refl
 
     -- what holds of the whole holds of the node and of what follows it
-    test_holds : whole ≡ true → (one (take n (drop a l)) (content_at names l inner) ≡ true) × (all (content_at names l after) ≡ true)
-    test_holds f = both (one (take n (drop a l)) (content_at names l inner)) (all (content_at names l after)) (sym test_one ∙ f)
-
--- ---- the nodes in a /reserved-memory
+    test_holds : whole ≡ true → (one name (stands t inner) ≡ true) × (all (stands t after) ≡ true)
+    test_holds e = both (one name (stands t inner)) (all (stands t after)) (sym test_one ∙ e)
 
 module _ (get : Get) (width : ℕ) where
-  module _ (way : List (List ℕ)) where
-    reserved_tested : Tested (reserved_ok get width way) (λ name c. whole_entries width (get (record { way = way ++ (name ∷ []); content = c }) reg))
-    unfolding reserved_ok
-    reserved_tested = record { on_nothing = refl; on_property = λ at value c. refl; on_node = λ name inner c. refl }
+  -- ---- the nodes in a /reserved-memory
 
-  -- by their names
-  module _ (names : ℕ) (l : List ℕ) (name k at i : ℕ) (r : Next) (x : next_is names l 14 i r)
-      (inv : reserved_ok get width (take k (drop name l) ∷ []) (content_at names l at) ≡ reserved_ok get width (take k (drop name l) ∷ []) (content_at names l i)) where
-    pub reserved_last : r ≡ Last → true ≡ reserved_ok get width (take k (drop name l) ∷ []) (content_at names l at)
-    reserved_last = test_last _ _ (reserved_tested (take k (drop name l) ∷ [])) names l 14 i r x _ inv
+  reserved_tested : (way : List (List ℕ))
+      → Tested (reserved_ok get width way) (λ name c. whole_entries width (get (record { way = way ++ (name ∷ []); content = c }) reg))
+  unfolding reserved_ok
+  reserved_tested way = record { on_nothing = refl; on_property = λ at value c. refl; on_node = λ name inner c. refl }
 
-    module _ (b m inner after : ℕ) (e : r ≡ Node b m inner after) (t : Bool)
-        (p : t ≡ whole_entries width (get (record { way = take k (drop name l) ∷ take m (drop b l) ∷ []; content = content_at names l inner }) reg)) where
-      pub reserved_bad : t ≡ false → false ≡ reserved_ok get width (take k (drop name l) ∷ []) (content_at names l at)
-      reserved_bad = test_bad _ _ (reserved_tested (take k (drop name l) ∷ [])) names l 14 i r x _ inv b m inner after e t p
+  module _ (t : Trees) (outer : List ℕ) (start at : ℕ)
+      (inv : reserved_ok get width (outer ∷ []) (stands t start) ≡ reserved_ok get width (outer ∷ []) (stands t at)) where
+    pub reserved_last : strip (stands t at) ≡ nothing → true ≡ reserved_ok get width (outer ∷ []) (stands t start)
+    reserved_last = test_last _ _ (reserved_tested (outer ∷ [])) t at _ inv
 
-      pub reserved_on : t ≡ true
-          → reserved_ok get width (take k (drop name l) ∷ []) (content_at names l at) ≡ reserved_ok get width (take k (drop name l) ∷ []) (content_at names l after)
-      reserved_on = test_on _ _ (reserved_tested (take k (drop name l) ∷ [])) names l 14 i r x _ inv b m inner after e t p
+    module _ (x : n.Node) (after : ℕ) (f : FirstBelow t outer at x after) (b : Bool) (p : b ≡ whole_entries width (get (node_at t x) reg)) where
+      by_name : b ≡ whole_entries width (get (record { way = outer ∷ f.name ∷ []; content = stands t x.at }) reg)
+      by_name = p ∙ rw f.way refl
+
+      pub reserved_bad : b ≡ false → false ≡ reserved_ok get width (outer ∷ []) (stands t start)
+      reserved_bad = test_bad _ _ (reserved_tested (outer ∷ [])) t at _ inv 2 f.name x.at after f.first b by_name
+
+      pub reserved_on : b ≡ true → reserved_ok get width (outer ∷ []) (stands t start) ≡ reserved_ok get width (outer ∷ []) (stands t after)
+      reserved_on = test_on _ _ (reserved_tested (outer ∷ [])) t at _ inv 2 f.name x.at after f.first b by_name
 
   -- ---- a child of the root
-
-  module _ (name : List ℕ) (c : Content) (t : Bool) (p : t ≡ memory_ok get width (record { way = name ∷ []; content = c })) where
-    pub child_bad : t ≡ false → false ≡ child_ok get width name c
-    unfolding child_ok
-    child_bad e = rw (← p, e) refl
-
-    module _ (e : t ≡ true) (u : Bool) (q : u ≡ same name reserved_memory) where
-      other : u ≡ false → true ≡ child_ok get width name c
-      unfolding child_ok
-      other f = rw (← p, e, ← q, f) refl
-
-      reserved : u ≡ true → (v : Bool) → v ≡ reserved_ok get width (name ∷ []) c → v ≡ child_ok get width name c
-      unfolding child_ok
-      reserved f v z = rw (← p, e, ← q, f) z
-
-  -- whose name has k bytes at `name`
-  module _ (l : List ℕ) (name k : ℕ) (c : Content) (t : Bool) (p : t ≡ memory_ok get width (record { way = take k (drop name l) ∷ []; content = c })) (e : t ≡ true)
-      (u : Bool) (q : u ≡ same (take (name + k - name) (drop name l)) reserved_memory) where
-    same_name : u ≡ same (take k (drop name l)) reserved_memory
-    same_name = let w : name + k - name ≡ k = omega arith in q ∙ rw w refl
-
-    pub child_other : u ≡ false → true ≡ child_ok get width (take k (drop name l)) c
-    child_other = other (take k (drop name l)) c t p e u same_name
-
-    pub child_reserved : u ≡ true → (v : Bool) → v ≡ reserved_ok get width (take k (drop name l) ∷ []) c → v ≡ child_ok get width (take k (drop name l)) c
-    child_reserved = reserved (take k (drop name l)) c t p e u same_name
 
   -- a child whose values hold, if it is memory
   pub child_memory : (name : List ℕ) (c : Content) → child_ok get width name c ≡ true → memory_ok get width (record { way = name ∷ []; content = c }) ≡ true
@@ -168,22 +95,20 @@ module _ (get : Get) (width : ℕ) where
   unfolding children_ok
   children_tested = record { on_nothing = refl; on_property = λ at value c. refl; on_node = λ name inner c. refl }
 
-  module _ (names : ℕ) (l : List ℕ) (at i : ℕ) (r : Next) (k : next_is names l 15 i r)
-      (inv : children_ok get width (content_at names l at) ≡ children_ok get width (content_at names l i)) where
-    pub children_last : r ≡ Last → true ≡ children_ok get width (content_at names l at)
-    children_last = test_last _ _ children_tested names l 15 i r k _ inv
+  module _ (t : Trees) (start at : ℕ) (inv : children_ok get width (stands t start) ≡ children_ok get width (stands t at)) where
+    pub children_last : strip (stands t at) ≡ nothing → true ≡ children_ok get width (stands t start)
+    children_last = test_last _ _ children_tested t at _ inv
 
-    module _ (a n inner after : ℕ) (e : r ≡ Node a n inner after) (t : Bool) (p : t ≡ child_ok get width (take n (drop a l)) (content_at names l inner)) where
-      pub children_bad : t ≡ false → false ≡ children_ok get width (content_at names l at)
-      children_bad = test_bad _ _ children_tested names l 15 i r k _ inv a n inner after e t p
+    module _ (x : Child) (after : ℕ) (f : FirstChild t at x after) (b : Bool) (p : b ≡ child_ok get width x.name.now (stands t x.at)) where
+      pub children_bad : b ≡ false → false ≡ children_ok get width (stands t start)
+      children_bad = test_bad _ _ children_tested t at _ inv 1 x.name.now x.at after f.first b p
 
-      pub children_on : t ≡ true → children_ok get width (content_at names l at) ≡ children_ok get width (content_at names l after)
-      children_on = test_on _ _ children_tested names l 15 i r k _ inv a n inner after e t p
+      pub children_on : b ≡ true → children_ok get width (stands t start) ≡ children_ok get width (stands t after)
+      children_on = test_on _ _ children_tested t at _ inv 1 x.name.now x.at after f.first b p
 
-  module _ (names : ℕ) (l : List ℕ) (i : ℕ) (r : Next) (k : next_is names l 15 i r) (inv : children_ok get width (content_at names l i) ≡ true)
-      (a n inner after : ℕ) (e : r ≡ Node a n inner after) where
-    pub child_holds : child_ok get width (take n (drop a l)) (content_at names l inner) ≡ true
-    child_holds = (test_holds _ _ children_tested names l 15 i r k _ refl a n inner after e inv).0
+  module _ (t : Trees) (at : ℕ) (inv : children_ok get width (stands t at) ≡ true) (x : Child) (after : ℕ) (f : FirstChild t at x after) where
+    pub child_holds : child_ok get width x.name.now (stands t x.at) ≡ true
+    child_holds = (test_holds _ _ children_tested t at _ refl 1 x.name.now x.at after f.first inv).0
 
-    pub rest_holds : children_ok get width (content_at names l after) ≡ true
-    rest_holds = (test_holds _ _ children_tested names l 15 i r k _ refl a n inner after e inv).1
+    pub rest_holds : children_ok get width (stands t after) ≡ true
+    rest_holds = (test_holds _ _ children_tested t at _ refl 1 x.name.now x.at after f.first inv).1

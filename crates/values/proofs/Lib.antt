@@ -1,4 +1,5 @@
-pub mod Properties
+pub mod Nodes
 pub mod Corrections
+pub mod Properties
 pub mod Children
 pub mod OneByOne

@@ -1,87 +1,113 @@
 -- What is got of a node of the board by where it stands, and the values of the root's children one by one. Only inner contracts and proofs cite this
 -- module. Assumes nothing.
-use Rattle.std.specs.Prelude.{ℕ, ◌+◌, ◌≤◌, ◌<◌, ◌≡◌, Bool, true, cond, ◌&&◌, List, [], ◌∷◌, ◌++◌, eqb, length, drop, take}
+use Rattle.std.specs.Prelude.{ℕ, ◌≤◌, ◌<◌, ◌≡◌, Bool, true, false, cond, ◌&&◌, List, [], ◌∷◌, ◌++◌, Option, Some, None, IfSome, eqb, length}
+use Rattle.std.specs.Borrow.{Bor}
 use Rattle.tree.specs.Words.{word}
 use Rattle.tree.specs.Content.{Content, nothing, property, node}
-use Rattle.tree.specs.Steps.{content_at}
-use Rattle.lookup.specs.Values.{same, path, Node, Value, absent, present}
+use Rattle.tree.specs.Steps.{rest_at, content_at, strip}
+use Rattle.tree.specs.declared.reader.Tree.{Tree}
+use Rattle.lookup.specs.Values as n
+use Rattle.lookup.specs.Values.{same, path, Value, absent, present}
 use Rattle.paths.specs.Lookup.{listing, first_of, or_else}
-use Rattle.tree.specs.declared.reader.Root.{Root}
-use Rattle.paths.specs.Steps.{InRoot}
+use Rattle.paths.specs.Steps.{names_of, fits, InRoot}
 use Rattle.values.specs.Names.{device_type, memory, reg, numa_node_id, reserved_memory}
 use Rattle.values.specs.Values.{Get, own, is, number_or, number_from, whole_entries}
-use Rattle.values.specs.declared.Number.{Number}
-use Rattle.values.specs.declared.Number.TheVariants.{Is, Other}
-use Rattle.values.specs.declared.Pair.{Pair}
-use Rattle.values.specs.declared.Way.{Way}
-use Rattle.values.specs.declared.Way.TheVariants.{Top, Child, Below}
-use Rattle.values.specs.declared.Got as g
-use Rattle.values.specs.declared.Got.TheVariants as v
+use Rattle.values.specs.declared.Trees.{Trees}
+use Rattle.values.specs.declared.Node.{Node}
+use Rattle.values.specs.declared.Child as s
 
 -- ---- nodes by where they stand
 
--- a service tree's structure block, with its root, or no bytes
-pub record MayCorrect (r : Root) (l : List ℕ) : Type 0 where
-  pub may : (length l ≡ 0 → ⊥) → InRoot r l
+-- what is read: a service tree that has the form, where there is one, and a board's of less than 2^32 bytes
+pub record Sources (t : Trees) : Type 0 where
+  pub service : IfSome t.service InRoot
+  pub short : length t.board.structure.bytes.now < 4294967296
 
--- what is read: the service tree's structure block, and the board's, which is shorter than 2^32
-pub record Sources (pair : Pair) (service l : List ℕ) : Type 0 where
-  pub correct : MayCorrect pair.service service
-  pub short : length l < 4294967296
+-- what stands from `at` on in a node of the board
+abbrev pub stands : Trees → ℕ → Content
+stands t at = content_at t.board.structure.names t.board.structure.bytes.now at
 
--- the names on the way to a node
-abbrev pub way_at : List ℕ → Way → List (List ℕ)
-way_at l Top = []
-way_at l (Child a n) = take n (drop a l) ∷ []
-way_at l (Below a n b m) = take n (drop a l) ∷ take m (drop b l) ∷ []
+-- there it goes on as a tree does, with n nodes open
+pub record Goes (t : Trees) (n at : ℕ) : Type 0 where
+  pub within : at ≤ length t.board.structure.bytes.now
+  pub is : rest_at t.board.structure.names t.board.structure.bytes.now n false at ≡ true
 
-abbrev pub WayIn : List ℕ → Way → Type 0
-WayIn l Top = 0 ≤ length l
-WayIn l (Child a n) = a + n ≤ length l
-WayIn l (Below a n b m) = (a + n ≤ length l) × (b + m ≤ length l)
+-- a node of the board as it is asked for
+abbrev pub node_at : Trees → Node → n.Node
+node_at t x = record { way = names_of x.way; content = stands t x.at }
 
-abbrev pub node_at : Pair → List ℕ → Way → ℕ → Node
-node_at pair l way at = record { way = way_at l way; content = content_at pair.names l at }
+-- one that no name leads to
+abbrev pub root_at : Trees → ℕ → n.Node
+root_at t at = record { way = []; content = stands t at }
 
--- the first match at the node's path in a service tree, by its strings block and what stands in its root, else what is got without it
-abbrev pub corrected : List ℕ → Content → Get → Get
-corrected strings top get n name = or_else (first_of (path n.way) name (listing strings [] top)) (get n name)
+pub record AtNode (t : Trees) (x : Node) : Type 0 where
+  pub trees : Sources t
+  pub fits : fits x.way
+  pub within : x.at ≤ length t.board.structure.bytes.now
 
--- what is got of a node's properties: the service tree's first
-abbrev pub gets : Pair → List ℕ → List ℕ → List ℕ → Get
-gets pair ss service strings = corrected ss (content_at pair.service.names service pair.service.at) (own strings)
+pub record AtChild (t : Trees) (x : s.Child) : Type 0 where
+  pub trees : Sources t
+  pub short : length x.name.now < 4294967296
+  pub goes : Goes t 2 x.at
 
--- the structure block that holds a value
-abbrev pub holds : List ℕ → List ℕ → Bool → List ℕ
-holds service l corrected = cond corrected service l
+-- what stands from `at` on in a node of the board, where n nodes are open: first a node by its name and what stands in it from `inner` on, and the rest
+pub record First (t : Trees) (n at : ℕ) (name : List ℕ) (inner after : ℕ) : Type 0 where
+  pub is : strip (stands t at) ≡ node name (stands t inner) (stands t after)
+  pub goes : Goes t n after
+  pub forward : at < after
 
-abbrev pub got_at : List ℕ → List ℕ → g.Got → Value
-got_at service l (v.At corrected at n) = present (take n (drop at (holds service l corrected)))
-got_at service l v.Nothing = absent
+pub record FirstChild (t : Trees) (at : ℕ) (x : s.Child) (after : ℕ) : Type 0 where
+  pub first : First t 1 at x.name.now x.at after
+  pub child : AtChild t x
 
-abbrev pub inside : List ℕ → List ℕ → g.Got → Type 0
-inside service l (v.At corrected at n) = at + n ≤ length (holds service l corrected)
-inside service l v.Nothing = 0 ≤ length l
+abbrev pub NextChild : Trees → ℕ → Option (s.Child × ℕ) → Type 0
+NextChild t at None = strip (stands t at) ≡ nothing
+NextChild t at (Some p) = FirstChild t at p.0 p.1
 
-pub record GotIn (service l : List ℕ) (v : Value) (r : g.Got) : Type 0 where
-  pub is : v ≡ got_at service l r
-  pub within : inside service l r
+pub record FirstBelow (t : Trees) (outer : List ℕ) (at : ℕ) (x : Node) (after : ℕ) : Type 0 where
+  pub name : List ℕ
+  pub way : names_of x.way ≡ outer ∷ name ∷ []
+  pub first : First t 2 at name x.at after
+  pub node : AtNode t x
+
+abbrev pub NextBelow : Trees → List ℕ → ℕ → Option (Node × ℕ) → Type 0
+NextBelow t outer at None = strip (stands t at) ≡ nothing
+NextBelow t outer at (Some p) = FirstBelow t outer at p.0 p.1
+
+-- ---- what is got
+
+-- the first match at a path in a service tree, if there is one
+abbrev pub correction : Option Tree → List (List ℕ) → List ℕ → Value
+correction None way name = absent
+correction (Some t) way name = first_of (path way) name (listing t.strings.now [] (content_at t.structure.names t.structure.bytes.now t.root))
+
+-- of a node's properties: the service tree's first
+abbrev pub corrected : Option Tree → Get → Get
+corrected service get n name = or_else (correction service n.way name) (get n name)
+
+abbrev pub gets : Trees → Get
+gets t = corrected t.service (own t.board.strings.now)
+
+-- a value as a part of a tree
+abbrev pub found : Option (Bor (List ℕ)) → Value
+found None = absent
+found (Some v) = present v.now
 
 -- ---- values
 
 -- a property as a number
-abbrev pub told : ℕ → Value → Number
-told d absent = Is d
-told d (present v) = cond (eqb (length v) 4) (Is (word v)) Other
+abbrev pub told : ℕ → Value → Option ℕ
+told d absent = Some d
+told d (present v) = cond (eqb (length v) 4) (Some (word v)) None
 
--- 1 or 2, and 0 for anything else
-abbrev pub cells_of : ℕ → Value → ℕ
-cells_of d v = cond (number_from 1 2 v) (number_or d v) 0
+-- 1 or 2
+abbrev pub cells_of : ℕ → Value → Option ℕ
+cells_of d v = cond (number_from 1 2 v) (Some (number_or d v)) None
 
 -- ---- the values of the root's children, one by one
 
 module _ (get : Get) (w : ℕ) where
-  unfoldable pub memory_ok : Node → Bool
+  unfoldable pub memory_ok : n.Node → Bool
   memory_ok n = cond (is memory (get n device_type)) (whole_entries w (get n reg) && number_from 0 63 (get n numa_node_id)) true
 
   unfoldable pub reserved_ok : List (List ℕ) → Content → Bool

@@ -1,5 +1,5 @@
 -- `block::block_good` meets its contract.
-use Rattle.records.specs.declared.table.Checked.TheVariants.{Total, Bad}
+use Rattle.std.specs.Prelude.{Some, None}
 use mathlib.Core.Path.{◌≡◌}
 use native.Mathlib.Omega.{arith}
 use Rattle.regions.proofs.Numbers.{bytes_all}
@@ -16,24 +16,19 @@ returns-then-h-gt1 c = search (bad_direction, rules)
 pub returns-in_default : goal.returns-in_default
 returns-in_default c =
     let h = c.get_header-h.ensures in
-    let z : c.check_table.result ≡ Bad = search rules in
+    let z : c.check_table.result ≡ None = search rules in
     bad_memory _ _ _ h _ c.check_table.ensures z
 
 pub returns-in_default-check_table : goal.returns-in_default-check_table
 returns-in_default-check_table c =
     let h = c.get_header-h.ensures in
-    let z : c.check_table-2.result ≡ Bad = search rules in
+    let z : c.check_table-2.result ≡ None = search rules in
     bad_taken _ _ _ h _ c.check_table-2.ensures z
-
-pub header_right-requires : goal.header_right-requires
-header_right-requires c =
-    let l = c.if-b-end.false in
-    (omega arith, c.requires)
 
 pub returns : goal.returns
 returns c =
-    let bs = bytes_all _ c.shared_slice_known-1.given in
-    let x : c.check_table.result ≡ Total c.in-Total.memory = search rules in
-    let y : c.check_table-2.result ≡ Total c.in-Total-check_table.taken = search rules in
+    let bs = bytes_all _ c.type_inv.b in
+    let x : c.check_table.result ≡ Some c.in-Some.memory = search rules in
+    let y : c.check_table-2.result ≡ Some c.in-Some-check_table.taken = search rules in
     good_rest _ _ _ c.get_header-h.ensures bs _ c.if-b-end.false (omega arith) c.if-h-gt1.false _ _ c.check_table.ensures x
     _ _ c.check_table-2.ensures y _ c.header_right.ensures

@@ -1,7 +1,5 @@
--- What the loop of `change_list` keeps, and how far it has to go.
-use Prim.Native.Nat.{◌*◌, ◌-◌, ◌≤◌}
-use mathlib.Core.Path.{◌≡◌}
-use lib.ListN.{length, drop}
+-- What the loop of `change_list` keeps.
+use Rattle.std.proofs.Common.{◌≡◌, ◌*◌, ◌-◌, ◌≤◌, length, drop}
 use Rattle.regions.specs.Bytes.{read_regions}
 use Rattle.regions.specs.Changes.{change}
 use Rattle.regions.proofs.Update.{walk}
@@ -11,11 +9,13 @@ use Rattle.lists.proofs.change_list.Given as goal
 
 abbrev pub invariant-loop-i : goal.invariant-loop-i
 invariant-loop-i l =
-    let rest = read_regions (l.count - l.i) (drop (24 * l.i) l.t) in
-    (l.i ≤ l.count)
-    × ((l.n ≤ l.cap)
-    × ((length l.out ≡ length l.initial.out)
-    × (Ahead l.from.0 rest × (finished l.edit (read_regions l.count l.t) ≡ walk (change l.edit.change) l.edit.lo.0 l.edit.hi.0 (read_regions l.n l.out) l.from.0 rest))))
-
-abbrev pub decreases-loop-i : goal.decreases-loop-i
-decreases-loop-i l = l.count - l.i
+    let records = read_regions l.table.count l.table.bytes.now in
+    let rest = read_regions (l.table.count - l.i) (drop (24 * l.i) l.table.bytes.now) in
+    let edit = l.edit in
+    record {
+      room : 24 * l.built.count ≤ length l.built.out.now;
+      same : l.built.out.ghost_name ≡ l.initial.built.out.ghost_name;
+      long : length l.built.out.now ≡ length l.fn.out;
+      ahead : Ahead l.from.0 rest;
+      walked : finished edit records ≡ walk (change edit.change) edit.lo.0 edit.hi.0 (read_regions l.built.count l.built.out.now) l.from.0 rest;
+    }

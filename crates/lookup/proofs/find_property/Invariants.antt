@@ -8,7 +8,7 @@ use Rattle.lookup.proofs.find_property.Given as goal
 
 abbrev pub invariant-loop-i : goal.invariant-loop-i
 invariant-loop-i l =
-    (l.i ≤ length l.s) × (value_of l.strings l.name (places_at l.names l.s l.at) ≡ value_of l.strings l.name (places_at l.names l.s l.i))
+    (l.i ≤ length l.tree.structure.bytes.now) × (value_of l.tree.strings.now l.name (places_at l.tree.structure.names l.tree.structure.bytes.now l.at) ≡ value_of l.tree.strings.now l.name (places_at l.tree.structure.names l.tree.structure.bytes.now l.i))
 
 abbrev pub decreases-loop-i : goal.decreases-loop-i
-decreases-loop-i l = length l.s - l.i
+decreases-loop-i l = length l.tree.structure.bytes.now - l.i

@@ -1,20 +1,13 @@
 -- `moves::move_down` meets its contract.
-use Rattle.moves.proofs.Moving.{none_down, down_four, down_one, end_down}
-use native.Mathlib.Omega.{arith}
-use borrow.Author.Rules.{rules}
+use Rattle.std.proofs.Common.{arith, rules}
+use Rattle.moves.proofs.Moving.{none_down, down_four, down_one}
 use Rattle.moves.proofs.move_down.Goals as goal
 
-pub loop-i-init : goal.loop-i-init
-loop-i-init c = search (none_down, rules)
+pub loop-done-init : goal.loop-done-init
+loop-done-init c = search (none_down, rules)
+
+pub loop-done-preserved : goal.loop-done-preserved
+loop-done-preserved c = (search rules, down_four _ _ _ _ _ c.loop-done.invariant.1 (omega arith) _ (omega arith) c.copy_piece.ensures)
 
 pub loop-i-preserved : goal.loop-i-preserved
-loop-i-preserved c = let a = c.args in let o = c.loop-i in (search rules, (search rules, (search rules, down_four a.t.now o.t a.from a.by o.i o.invariant.1.1.1 (omega arith) (omega arith) _ (omega arith) c.copy_four.ensures)))
-
-pub loop-i-2-init : goal.loop-i-2-init
-loop-i-2-init c = search (none_down, rules)
-
-pub loop-i-2-preserved : goal.loop-i-2-preserved
-loop-i-2-preserved c = let a = c.args in let u = c.loop-i in let o = c.loop-i-2 in (search rules, (search rules, (search rules, down_one u.t o.t u.i a.by o.i o.invariant.1.1.1 (omega arith) (omega arith) _ (omega arith) c.copy_one.ensures)))
-
-pub returns : goal.returns
-returns c = let a = c.args in let u = c.loop-i in let o = c.loop-i-2 in end_down a.t.now u.t o.t a.from a.end a.by u.i o.i u.invariant.1.1.1 o.invariant.1.1.1 (omega arith) (omega arith) (omega arith) (omega arith) (omega arith) (omega arith)
+loop-i-preserved c = down_one _ _ _ _ _ c.loop-i.invariant (omega arith) _ (omega arith) c.copy_piece-in-loop-i.ensures

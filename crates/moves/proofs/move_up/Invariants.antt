@@ -1,18 +1,13 @@
--- What the loop of `move_up` keeps, and how far it has to go.
-use Prim.Native.Nat.{◌+◌, ◌*◌, ◌-◌, ◌≤◌}
-use lib.ListN.{length, take, drop}
-use lib.Seq.{sets}
-use mathlib.Core.Path.{◌≡◌}
+-- What the loops of `move_up` keep, and how far the first has to go.
+use Rattle.std.proofs.Common.{◌≤◌}
+use Rattle.moves.proofs.Moving.{Up}
 use Rattle.moves.proofs.move_up.Given as goal
 
+abbrev pub invariant-loop-left : goal.invariant-loop-left
+invariant-loop-left l = (l.from ≤ l.left) × Up l.fn.t l.end l.by l.t l.left
+
+abbrev pub decreases-loop-left : goal.decreases-loop-left
+decreases-loop-left l = l.left
+
 abbrev pub invariant-loop-i : goal.invariant-loop-i
-invariant-loop-i l = (l.from ≤ l.i) × ((l.i ≤ l.end) × ((length l.t ≡ length l.initial.t) × (l.t ≡ sets l.initial.t (24 * (l.i + l.by)) (take (24 * (l.end - l.i)) (drop (24 * l.i) l.initial.t)))))
-
-abbrev pub decreases-loop-i : goal.decreases-loop-i
-decreases-loop-i l = l.i
-
-abbrev pub invariant-loop-i-2 : goal.invariant-loop-i-2
-invariant-loop-i-2 l = (l.from ≤ l.i) × ((l.i ≤ l.initial.i) × ((length l.t ≡ length l.initial.t) × (l.t ≡ sets l.initial.t (24 * (l.i + l.by)) (take (24 * (l.initial.i - l.i)) (drop (24 * l.i) l.initial.t)))))
-
-abbrev pub decreases-loop-i-2 : goal.decreases-loop-i-2
-decreases-loop-i-2 l = l.i
+invariant-loop-i l = (l.from ≤ l.i) × Up l.fn.t l.end l.by l.t l.i

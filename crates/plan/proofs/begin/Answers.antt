@@ -1,11 +1,7 @@
 -- `plan::begin` meets its contract.
-use Rattle.block.proofs.Layouts.{small_current, small_as}
 use Rattle.plan.proofs.Judging.{begun_bad, begun_long, begun_fine}
 use borrow.Author.Rules.{rules}
 use Rattle.plan.proofs.begin.Goals as goal
-
-pub block_good-requires : goal.block_good-requires
-block_good-requires c = search (small_as small_current, rules)
 
 pub returns-then-not-block_good : goal.returns-then-not-block_good
 returns-then-not-block_good c = search (begun_bad, rules)

@@ -1,13 +1,6 @@
--- What the loop of `fill_each` keeps, and how far it has to go.
-use Prim.Native.Nat.{◌-◌, ◌≤◌}
-use mathlib.Core.Path.{◌≡◌}
-use lib.ListN.{length}
+-- What the loop of `fill_each` keeps.
 use Rattle.plan.proofs.Filling.{Upto}
 use Rattle.plan.proofs.fill_each.Given as goal
 
-abbrev pub invariant-loop-i : goal.invariant-loop-i
-invariant-loop-i l =
-    (l.i ≤ l.count) × ((length l.t ≡ length l.initial.t) × Upto l.initial.t l.initial.held l.seen l.t l.held l.i)
-
-abbrev pub decreases-loop-i : goal.decreases-loop-i
-decreases-loop-i l = l.count - l.i
+abbrev pub invariant-loop-r : goal.invariant-loop-r
+invariant-loop-r l = Upto l.initial.t l.initial.held l.ranges l.t l.held l.r-index

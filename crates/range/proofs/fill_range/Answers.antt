@@ -1,38 +1,24 @@
 -- `range::fill_range` meets its contract.
-use native.Mathlib.Omega.{arith}
 use Rattle.regions.proofs.Numbers.{bytes_all}
-use Rattle.block.specs.Block.{current}
 use Rattle.block.proofs.Blocks.{good_length}
 use Rattle.range.proofs.Storing.{span_le}
 use Rattle.range.proofs.Ranging.{range_whole, range_vacant, range_stored}
 use borrow.Author.Rules.{rules}
+use native.Mathlib.Omega.{arith}
+use Rattle.block.specs.Block.{current}
 use Rattle.range.proofs.fill_range.Goals as goal
 
 pub get_header-own-requires : goal.get_header-own-requires
-get_header-own-requires c =
-    omega (arith, good_length current _ c.requires.0)
+get_header-own-requires c = omega (arith, good_length current _ c.requires.0)
 
 pub slice_bounds-fill_table-end : goal.slice_bounds-fill_table-end
-slice_bounds-fill_table-end c =
-    let h = span_le _ _ _ c.requires.0 c.table_span-span.ensures.1 in
-    search rules
+slice_bounds-fill_table-end c = search (span_le, rules)
 
 pub fill_table-changed-requires : goal.fill_table-changed-requires
-fill_table-changed-requires c =
-    let y = c.table_span-span.ensures in
-    let h = c.get_header-own.ensures in
-    let t = c.tally-tally.ensures in
-    let u = c.cut_end-hi.ensures in
-    let bs = bytes_all _ c.slice_known-1.given in
-    let p = c.requires.1 in
-    (range_whole _ c.requires.0 c.args.kind _ _ y.0 y.1 _ h _ t bs, (omega (arith, u), (omega (arith, u), range_vacant _ c.requires.0 c.args.kind _ _ y.0 y.1 _ h _ t c.args.base _ _ u p.1.0 p.1.1)))
+fill_table-changed-requires c = search (bytes_all, range_whole, range_vacant, rules)
 
 pub store_changed-requires : goal.store_changed-requires
-store_changed-requires c =
-    omega (arith, good_length current _ c.requires.0, c.fill_table-changed.auto)
+store_changed-requires c = omega (arith, good_length current _ c.requires.0, c.fill_table-changed.auto)
 
 pub returns : goal.returns
-returns c =
-    let y = c.table_span-span.ensures in
-    let bs = bytes_all _ c.slice_known-1.given in
-    range_stored _ c.requires.0 c.args.kind _ _ y.0 y.1 _ c.get_header-own.ensures _ c.tally-tally.ensures _ c.args.base _ _ c.cut_end-hi.ensures _ _ c.fill_table-changed.ensures bs _ c.store_changed.ensures
+returns c = search (bytes_all, range_stored, rules)

@@ -1,17 +1,16 @@
 -- `seek::bottom_up_in` meets its contract.
-use Rattle.seek.proofs.InBlock.{ready_above}
 use Rattle.seek.proofs.BottomUp.{up_found, up_nowhere, up_then_down}
+use Rattle.fits.proofs.Orders.{no_more}
 use borrow.Author.Rules.{rules}
 use Rattle.seek.proofs.bottom_up_in.Goals as goal
+use Rattle.seek.proofs.bottom_up_in.Goals.{then-is_some-via-then-is_some, then-is_some-via-else-is_some+then-le}
 
-pub first_in-found-requires : goal.first_in-found-requires
-first_in-found-requires c = search (ready_above, rules)
-
-pub returns-in-Here : goal.returns-in-Here
-returns-in-Here c = search (up_found, rules)
-
-pub returns-then-image-start : goal.returns-then-image-start
-returns-then-image-start c = search (up_nowhere, rules)
+pub returns-then-is_some : goal.returns-then-is_some
+returns-then-is_some c =
+    elim c.then-is_some.branch [
+      | then-is_some-via-then-is_some w ↦ search (up_found, rules)
+      | then-is_some-via-else-is_some+then-le w ↦ search (up_nowhere, no_more, rules)
+    ]
 
 pub returns : goal.returns
 returns c = search (up_then_down, rules)

@@ -1,6 +1,7 @@
 -- `sweep::begin` meets its contract.
 use Rattle.records.proofs.Placing.{place_le}
-use Rattle.sweep.proofs.Tables.{memory_table, taken_table, begins_low, begins_ahead}
+use Rattle.runs.proofs.Steps.{memory_table, taken_table}
+use Rattle.sweep.proofs.Tables.{begins_low, begins_ahead}
 use borrow.Author.Rules.{rules}
 use Rattle.sweep.proofs.begin.Goals as goal
 
@@ -22,6 +23,6 @@ bounds_low-next-requires c = search (taken_table, rules)
 pub returns : goal.returns
 returns c = (
   search (begins_low, rules),
-  begins_ahead _ _ _ _ c.requires _ _ _ c.place-i.ensures c.place-j.ensures _ _ c.bounds_high.ensures
+  begins_ahead _ c.requires _ _ _ c.place-i.ensures c.place-j.ensures _ _ c.bounds_high.ensures
       c.bounds_high-2.ensures _ c.max.ensures _ c.bounds_low-next.ensures,
 )

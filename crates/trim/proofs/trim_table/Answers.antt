@@ -3,8 +3,8 @@ use native.Mathlib.Omega.{arith}
 use Rattle.trim.proofs.Trimming.{left_rises, left_zeros, trim_told}
 use Rattle.trim.proofs.trim_table.Goals as goal
 
-pub total_of-total-requires : goal.total_of-total-requires
-total_of-total-requires c =
+pub total-total-requires : goal.total-total-requires
+total-total-requires c =
     let a = c.args in
     let p = c.requires in
     let x = c.round_records-n in
@@ -30,4 +30,4 @@ returns c =
     let a = c.args in
     let p = c.requires in
     let x = c.round_records-n in
-    trim_told a.t.now a.tally p.0 a.align.0 p.1 _ _ x.ensures.0 x.ensures.1.0 x.ensures.1.1 _ c.total_of-total.ensures (omega (arith, x.auto)) _ _ c.replace.ensures
+    trim_told a.t.now a.tally p.0 a.align.0 p.1 _ _ x.ensures.0 x.ensures.1.0 x.ensures.1.1 _ c.total-total.ensures (omega (arith, x.auto)) _ _ c.replace.ensures

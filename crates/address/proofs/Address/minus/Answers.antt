@@ -1,11 +1,10 @@
 -- `address::Address::minus` meets its contract.
-use native.Mathlib.Omega.{arith}
+use Rattle.std.proofs.Math.Nat.{lt_of_not-le}
 use Rattle.address.proofs.Checked.{difference_no, difference_yes}
-use borrow.Author.Rules.{rules}
 use Rattle.address.proofs.Address.minus.Goals as goal
 
-pub returns-then-self-by : goal.returns-then-self-by
-returns-then-self-by c = difference_no _ _ (omega arith)
+pub returns-in_err-checked_sub : goal.returns-in_err-checked_sub
+returns-in_err-checked_sub c = rw c.from_residual.ensures (difference_no _ _ (lt_of_not-le c.in_err-checked_sub.ensures))
 
 pub returns : goal.returns
-returns c = search (difference_yes, rules)
+returns c = difference_yes _ _ _ c.in_ok-checked_sub.ensures.1 c.in_ok-checked_sub.ensures.0

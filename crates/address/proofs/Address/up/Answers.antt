@@ -1,14 +1,9 @@
 -- `address::Address::up` meets its contract.
-use Rattle.address.proofs.Checked.{small_yes}
-use Rattle.address.proofs.Rounding.{up_even, up_odd, rest_le_divisor}
-use borrow.Author.Rules.{rules}
+use Rattle.address.proofs.Checked.{small_yes, small_not}
 use Rattle.address.proofs.Address.up.Goals as goal
 
-pub returns-then-over-eq0 : goal.returns-then-over-eq0
-returns-then-over-eq0 c = rw (up_even _ _ _ c.remainder-over.ensures c.if-over-eq0.true) (small_yes _ _ _ (search rules))
-
-pub overflow_sub-by : goal.overflow_sub-by
-overflow_sub-by c = search (rest_le_divisor, rules)
+pub returns-in_err-round_up : goal.returns-in_err-round_up
+returns-in_err-round_up c = rw c.from_residual.ensures (small_not _ _ _ c.in_err-round_up.ensures)
 
 pub returns : goal.returns
-returns c = rw (up_odd _ _ _ c.remainder-over.ensures c.if-over-eq0.false) c.plus.ensures
+returns c = rw c.in_ok-round_up.ensures.1 (small_yes _ _ _ c.in_ok-round_up.ensures.0)

@@ -4,4 +4,4 @@ use Rattle.address.proofs.Powers.{ones_power}
 use Rattle.address.proofs.Size.power_of_two.Goals as goal
 
 pub returns : goal.returns
-returns c = ones_power 64 c.args.self.0 (omega arith)
+returns c = rw c.is_power_of_two.ensures (ones_power 64 c.args.self.0 (omega arith))

@@ -1,7 +1,8 @@
 -- `board::taking::intake_tree` meets its contract.
+use Rattle.std.proofs.Common.{rules}
 use Rattle.block.proofs.Layouts.{small_current, small_as}
-use Rattle.board.proofs.Whole.{not_good, is_good_lem, has_no_form, with_form, none_corrects, taken_alone}
-use borrow.Author.Rules.{rules}
+use Rattle.tree.proofs.Heading.{formed_header, formed_parts}
+use Rattle.board.proofs.Whole.{is_good_lem, not_good, no_form, alone_read, rooted, taken_alone}
 use Rattle.board.proofs.taking.intake_tree.Goals as goal
 
 pub block_good-requires : goal.block_good-requires
@@ -10,11 +11,15 @@ block_good-requires c = search (small_as small_current, rules)
 pub returns-then-not-block_good : goal.returns-then-not-block_good
 returns-then-not-block_good c = search (not_good, rules)
 
-pub take_formed-requires : goal.take_formed-requires
-take_formed-requires c = (search (is_good_lem, rules), search (with_form, rules), search (none_corrects, rules))
+pub returns-in_default : goal.returns-in_default
+returns-in_default c = search (no_form, rules)
 
-pub returns-then-has_form : goal.returns-then-has_form
-returns-then-has_form c = search (taken_alone, rules)
+pub list-requires : goal.list-requires
+list-requires c = (search (formed_header, rules), search (formed_parts, rules))
+
+pub take_valued-requires : goal.take_valued-requires
+take_valued-requires c = (search (is_good_lem, rules), search (alone_read, rules), search (rooted, rules))
 
 pub returns : goal.returns
-returns c = search (has_no_form, rules)
+returns c =
+    taken_alone _ c.current_layout.ensures _ _ c.block_good.ensures _ (search rules) c.in-Some.ensures.0 _ c.in-Some.ensures.1 _ c.list.ensures _ c.take_valued.ensures

@@ -1,5 +1,5 @@
--- What the loop of `starting_by` keeps, and how far it has to go.
-use Prim.Native.Nat.{◌+◌, ◌*◌, ◌-◌, ◌≤◌}
+-- What the loop of `starting_by` keeps.
+use Prim.Native.Nat.{◌+◌, ◌*◌, ◌-◌}
 use mathlib.Core.Path.{◌≡◌}
 use lib.ListN.{drop}
 use Rattle.regions.specs.Bytes.{read_regions}
@@ -7,7 +7,4 @@ use Rattle.change.specs.Steps.{starting_by}
 use Rattle.change.proofs.inplace.starting_by.Given as goal
 
 abbrev pub invariant-loop-i : goal.invariant-loop-i
-invariant-loop-i l = (l.i ≤ l.count) × (starting_by l.a.0 (read_regions l.count l.t) ≡ l.i + starting_by l.a.0 (read_regions (l.count - l.i) (drop (24 * l.i) l.t)))
-
-abbrev pub decreases-loop-i : goal.decreases-loop-i
-decreases-loop-i l = l.count - l.i
+invariant-loop-i l = starting_by l.a.0 (read_regions l.t.count l.t.bytes.now) ≡ l.i + starting_by l.a.0 (read_regions (l.t.count - l.i) (drop (24 * l.i) l.t.bytes.now))

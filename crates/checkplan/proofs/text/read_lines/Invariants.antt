@@ -1,10 +1,7 @@
--- What the loop of `read_lines` keeps, and how far it has to go.
-use Prim.Native.Nat.{◌-◌, ◌≤◌}
-use lib.ListN.{length}
+-- What the loop of `read_lines` keeps: the lines read and those that may come are at most 65.
+use Rattle.std.proofs.Common.{◌≤◌, ◌+◌, vec_len}
+use Rattle.std.specs.Iterator.Adapters.{take_count}
 use Rattle.checkplan.proofs.text.read_lines.Given as goal
 
-abbrev pub invariant-loop-at : goal.invariant-loop-at
-invariant-loop-at l = l.read.count ≤ 65
-
-abbrev pub decreases-loop-at : goal.decreases-loop-at
-decreases-loop-at l = length l.text - l.at
+abbrev pub invariant-loop-line : goal.invariant-loop-line
+invariant-loop-line l = vec_len l.lines + take_count l.line-iterator ≤ 65

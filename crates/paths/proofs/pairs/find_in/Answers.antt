@@ -1,17 +1,15 @@
 -- `paths::pairs::find_in` meets its contract.
-use Rattle.tree.proofs.Heading.{formed_header, formed_parts}
-use Rattle.paths.proofs.Holding.{block_formed, found_in}
+use native.Mathlib.Omega.{arith}
+use Rattle.tree.proofs.Heading.{formed_header}
+use Rattle.paths.proofs.Holding.{found_missing, found_placed}
 use borrow.Author.Rules.{rules}
 use Rattle.paths.proofs.pairs.find_in.Goals as goal
 
-pub structure-s-requires : goal.structure-s-requires
-structure-s-requires c = (search (formed_header, rules), search (formed_parts, rules))
+pub returns-in_err-found : goal.returns-in_err-found
+returns-in_err-found c = rw c.from_residual.ensures (search (found_missing, rules))
 
-pub strings-strings-requires : goal.strings-strings-requires
-strings-strings-requires c = (search (formed_header, rules), search (formed_parts, rules))
-
-pub root_of-requires : goal.root_of-requires
-root_of-requires c = search (block_formed, rules)
+pub word_at-requires : goal.word_at-requires
+word_at-requires c = omega (arith, formed_header c.args.tree.now c.requires)
 
 pub returns : goal.returns
-returns c = search (found_in, rules)
+returns c = search (found_placed, rules)

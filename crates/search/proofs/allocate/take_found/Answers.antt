@@ -1,16 +1,10 @@
 -- `search::allocate::take_found` meets its contract.
-use Prim.Native.Nat.{ℕ}
-use mathlib.Core.Path.{ap}
-use lib.ListN.{length}
-use Rattle.search.proofs.Allocating.{taken_full, taken_done}
-use borrow.Author.Rules.{rules}
+use Rattle.std.proofs.lemmas.Result.{err_from_is_err_and}
+use Rattle.refusals.proofs.Numbering.{number_some}
+use Rattle.search.proofs.Allocating.{taken_full}
 use Rattle.search.proofs.allocate.take_found.Goals as goal
 
-pub returns-then-number-ne0 : goal.returns-then-number-ne0
-returns-then-number-ne0 c = search (taken_full, rules)
-
-pub put_slip-requires : goal.put_slip-requires
-put_slip-requires c = search (ap (length {A = ℕ}), rules)
-
-pub returns : goal.returns
-returns c = search (taken_done, rules)
+pub returns-in_err-fill_range : goal.returns-in_err-fill_range
+returns-in_err-fill_range c =
+    let p = err_from_is_err_and c.from_residual.result c.from_residual.ensures.1 in
+    rw (p.1, p.2) (taken_full _ _ _ _ _ _ c.in_err-fill_range.ensures _ c.requires.zero (number_some _))

@@ -1,16 +1,14 @@
 -- `search::find::find` meets its contract.
-use Rattle.search.proofs.Answering.{begun_ready, still_zero, find_refused, find_told}
-use borrow.Author.Rules.{rules}
+use Rattle.std.proofs.Common.{refl}
+use Rattle.std.proofs.lemmas.Result.{err_from_is_err_and}
+use Rattle.refusals.proofs.Numbering.{number_some}
+use Rattle.search.proofs.Answering.{find_refused, find_told}
 use Rattle.search.proofs.find.find.Goals as goal
 
-pub returns-then-number-ne0 : goal.returns-then-number-ne0
-returns-then-number-ne0 c = search (find_refused, rules)
-
-pub find_in-requires : goal.find_in-requires
-find_in-requires c = search (begun_ready, rules)
-
-pub tell-requires : goal.tell-requires
-tell-requires c = search (still_zero, rules)
+pub returns-in_err-begin : goal.returns-in_err-begin
+returns-in_err-begin c =
+    let p = err_from_is_err_and c.from_residual.result c.from_residual.ensures.1 in
+    rw (p.1, p.2) (find_refused _ _ _ _ _ c.in_err-begin.ensures (number_some _))
 
 pub returns : goal.returns
-returns c = search (find_told, rules)
+returns c = find_told _ _ _ _ _ c.in_ok-begin.ensures refl _ c.find_in.ensures _ _ c.tell.ensures

@@ -5,9 +5,6 @@ use Rattle.tables.proofs.Setting.{set_bad, set_direction, checked_room, set_done
 use borrow.Author.Rules.{rules}
 use Rattle.tables.proofs.commands.set.Goals as goal
 
-pub block_good-requires : goal.block_good-requires
-block_good-requires c = search (small_as small_current, rules)
-
 pub returns-then-not-block_good : goal.returns-then-not-block_good
 returns-then-not-block_good c = search (set_bad, rules)
 
@@ -21,6 +18,4 @@ pub put_header-requires : goal.put_header-requires
 put_header-requires c = search (small_as small_current, checked_room, rules)
 
 pub returns : goal.returns
-returns c =
-    let bs = bytes_all c.args.block.now c.slice_known-1.given in
-    search (set_done, rules)
+returns c = search (set_done, bytes_all, rules)

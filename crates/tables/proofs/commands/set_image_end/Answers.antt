@@ -1,11 +1,7 @@
 -- `tables::commands::set_image_end` meets its contract.
-use Rattle.block.proofs.Layouts.{small_current, small_as}
 use Rattle.tables.proofs.Setting.{image_bad, checked_room, image_done}
 use borrow.Author.Rules.{rules}
 use Rattle.tables.proofs.commands.set_image_end.Goals as goal
-
-pub block_good-requires : goal.block_good-requires
-block_good-requires c = search (small_as small_current, rules)
 
 pub returns-then-not-block_good : goal.returns-then-not-block_good
 returns-then-not-block_good c = search (image_bad, rules)

@@ -1,13 +1,10 @@
 -- `tree::header::list_ok` meets its contract.
-use Rattle.tree.proofs.Heading.{list_misaligned, list_outside, list_inside}
-use borrow.Author.Rules.{rules}
+use Rattle.std.proofs.Common.{arith}
+use Rattle.std.proofs.lemmas.Grind.{common_steps}
+use Rattle.tree.specs.Header.{list}
+use Rattle.tree.proofs.Heading.{list_none}
 use Rattle.tree.proofs.header.list_ok.Goals as goal
 
-pub returns-then-at-ne0 : goal.returns-then-at-ne0
-returns-then-at-ne0 c = search (list_misaligned, rules)
-
 pub returns-then-end-at : goal.returns-then-end-at
-returns-then-end-at c = search (list_outside, rules)
-
-pub returns : goal.returns
-returns c = search (list_inside, rules)
+unfolding list
+returns-then-end-at c = grind (arith, common_steps, list_none)

@@ -1,10 +1,10 @@
 -- `intake::e820::Entry::becomes` meets its contract.
+use Rattle.std.proofs.Common.{rules}
 use Rattle.intake.proofs.ByKind.{kind_outside, kind_listed}
-use borrow.Author.Rules.{rules}
 use Rattle.intake.proofs.e820.Entry.becomes.Goals as goal
 
-pub returns-then-kind-ge8 : goal.returns-then-kind-ge8
-returns-then-kind-ge8 c = search (kind_outside, rules)
+pub returns-in-Some : goal.returns-in-Some
+returns-in-Some c = search (kind_listed, rules)
 
-pub returns : goal.returns
-returns c = kind_listed _ (search rules)
+pub returns-in-None : goal.returns-in-None
+returns-in-None c = kind_outside _ (search rules)

@@ -1,0 +1,7 @@
+-- `pages::Span::raise` meets its contract.
+use Rattle.pages.proofs.Trying.{raise_stays}
+use borrow.Author.Rules.{rules}
+use Rattle.pages.proofs.Span.raise.Goals as goal
+
+pub returns-else-holds : goal.returns-else-holds
+returns-else-holds c = (search rules, search (raise_stays, rules))

@@ -4,7 +4,6 @@ use mathlib.Core.Path.{◌≡◌, sym, ap, ◌∙◌}
 use mathlib.Core.Bool.{Bool, true, false, not, ◌&&◌, and-true, and-false}
 use mathlib.Core.List.{List, ◌++◌, append_assoc}
 use native.Mathlib.Omega.{arith}
-use native.Mathlib.Nat.{sub-zero}
 use lib.Dec.{eqb}
 use lib.ListN.{length, take, drop, replicate, length-append, length-drop, replicate-append-replicate}
 use lib.Seq.{sets, take_all, take_at, drop-append-le}
@@ -51,17 +50,7 @@ module _ (old : List ℕ) (g : good edition_one old ≡ true) where
 
 -- ---- its check, in the code's form
 
-module _ (flags : ℕ) where
-  pub flags_none : flags ≡ 0 → true ≡ old_flags flags
-  flags_none e = rw e
-
-  pub flags_no_map : (flags ≡ 0 → ⊥) → eqb flags 4 ≡ old_flags flags
-  flags_no_map n = rw (ne_eqb flags 0 n)
-
 module _ (l : List ℕ) (n : ℕ) where
-  pub flags_start : flags_one (read_regions (n - 0) (drop (24 * 0) l)) ≡ flags_one (read_regions n l)
-  flags_start = rw sub-zero
-
   module _ (i : ℕ) (inv : flags_one (read_regions (n - i) (drop (24 * i) l)) ≡ flags_one (read_regions n l)) where
     pub flags_end : n ≤ i → true ≡ flags_one (read_regions n l)
     unfolding flags_one

@@ -1,14 +1,14 @@
 -- The checks of a search, and the answers of find and next free, one by one. Assumes nothing.
-use Prim.Native.Nat.{ℕ, ◌+◌, ◌-◌, ◌≤◌, ◌<◌}
-use mathlib.Core.Path.{◌≡◌, refl, sym, ap, ap₂, ◌∙◌}
-use mathlib.Core.Bool.{Bool, true, false, cond, not, and-true, and-false}
-use mathlib.Core.List.{List, [], ◌++◌, append-nil}
+use Prim.Native.Nat.{ℕ, ◌+◌, ◌≤◌, ◌<◌}
+use mathlib.Core.Path.{◌≡◌, refl, sym, ap, ◌∙◌}
+use mathlib.Core.Bool.{Bool, true, false, cond, not}
+use mathlib.Core.List.{List, [], append-nil}
 use mathlib.Core.Option.{Option, none, some}
 use native.Mathlib.Omega.{arith}
 use lib.Dec.{eqb, lit<}
-use lib.ListN.{length, take, drop, replicate, length-append}
+use lib.ListN.{length, drop, replicate, length-append}
 use lib.Seq.{sets, sets-eq, drop_at, drop-length}
-use borrow.Author.Tests.{eq-eqb, ne_eqb, le-leb, lt-leb, eqb-true, eqb-false, not-true, not-false}
+use borrow.Author.Tests.{eq-eqb, ne_eqb, eqb-true, eqb-false, not-true, not-false}
 use Rattle.address.proofs.Tests.{zero_not_one}
 use Rattle.address.specs.Numbers.{power_of_two}
 use Rattle.address.specs.declared.Address.{Address}
@@ -18,7 +18,7 @@ use Rattle.regions.specs.Bytes.{number, bytes}
 use Rattle.regions.proofs.Numbers.{number_bytes, bytes_length, sets_append}
 use Rattle.block.specs.declared.Layout.{Layout}
 use Rattle.block.specs.Block.{current, contents, good}
-use Rattle.block.proofs.Blocks.{bad_here, good_here}
+use Rattle.block.proofs.Blocks.{good_here}
 use Rattle.regions.specs.Runs.{run_at}
 use Rattle.fits.specs.declared.Query.{Query}
 use Rattle.std.specs.Prelude.{Option as Maybe, Some, None}
@@ -32,16 +32,6 @@ use Rattle.change.specs.Steps.{Vacant}
 use Rattle.seek.proofs.Found.{eligible_below, eligible_vacant, found_eligible}
 
 -- ---- the checks
-
-module _ (node wish : ℕ) where
-  pub ask_wish : 3 < wish → false ≡ askable node wish
-  ask_wish w = rw (lt-leb wish 3 w, and-false)
-
-  pub ask_node : wish ≤ 3 → node ≤ 63 → true ≡ askable node wish
-  ask_node w h = rw (le-leb wish 3 w, le-leb node 63 h)
-
-  pub ask_any : wish ≤ 3 → 63 < node → eqb node 4294967295 ≡ askable node wish
-  ask_any w h = rw (le-leb wish 3 w, lt-leb node 63 h, and-true)
 
 module _ (q : Query) (k : Bool) (y : k ≡ askable q.node q.wish) where
   pub refused_ask : not k ≡ true → 2 ≡ refusal q
@@ -59,12 +49,6 @@ module _ (q : Query) (k : Bool) (y : k ≡ askable q.node q.wish) where
       refused_not e = rw (← y, not-false k i, ← z, not-false p j, ne_eqb q.size.0 0 e)
 
 module _ (L : Layout) (is : L ≡ current) (b : List ℕ) (q : Query) (g : Bool) (x : g ≡ good L b) where
-  pub check_bad : not g ≡ true → 1 ≡ check_number current q b
-  check_bad h = rw (bad_here L is b g x h)
-
-  pub check_good : not g ≡ false → (n : ℕ) → n ≡ refusal q → n ≡ check_number current q b
-  check_good h n e = rw (good_here L is b g x h) e
-
   module _ (h : not g ≡ false) (k : Bool) (y : k ≡ askable q.node q.wish) where
     pub check_ask : not k ≡ true → 2 ≡ check_number current q b
     check_ask i = rw (good_here L is b g x h, ← y, not-true k i)
@@ -97,9 +81,6 @@ number_ready L b q e =
 
 -- ---- the slip
 
-pub slip_cleared : (s z : List ℕ) → length s ≡ 16 → z ≡ take 0 s ++ replicate (length s - 0) 0 → z ≡ replicate 16 0
-slip_cleared s z l e = let n : length s - 0 ≡ 16 = omega arith in e ∙ rw n
-
 pub slip_written : (s x y : List ℕ) (a e : ℕ) → length s ≡ 16 → x ≡ sets s 0 (bytes 8 a) → y ≡ sets x 8 (bytes 8 e) → y ≡ slip_of a e
 slip_written s x y a e l f g =
     let n : length (slip_of a e) ≡ 16 = length-append (bytes 8 a) (bytes 8 e) ∙ omega (arith, bytes_length 8 a, bytes_length 8 e) in
@@ -118,12 +99,6 @@ slip_second x y h =
 -- ---- the slip and the checks, and then the answer
 
 module _ (k : ℕ) (b s : List ℕ) where
-  pub begun_no_slip : (length s ≡ 16 → ⊥) → answer 8 b s ≡ begun k b s
-  begun_no_slip h = rw (ne_eqb (length s) 16 h)
-
-  pub begun_checks : length s ≡ 16 → (z : List ℕ) → z ≡ replicate 16 0 → (n : ℕ) → n ≡ k → answer n b z ≡ begun k b s
-  begun_checks l z e n is = rw (eq-eqb (length s) 16 l) (ap₂ (λ (x : ℕ) (y : List ℕ). answer x b y) is e)
-
   -- once they have passed, what is answered then is the answer
   pub fine : length s ≡ 16 → k ≡ 0 → (a : Answer) → a ≡ asking k b s a
   fine l e a = rw (eq-eqb (length s) 16 l, eq-eqb k 0 e)

@@ -1,14 +1,11 @@
 -- Which table each command works on, what it makes of an address, and that the table's rules know it. Assumes nothing.
-use Prim.Native.Nat.{ℕ}
 use mathlib.Core.Path.{◌≡◌, refl, sym, ◌∙◌}
 use mathlib.Core.Bool.{Bool, true}
 use Rattle.address.proofs.Tests.{zero_not_one}
 use Rattle.regions.specs.declared.Kind.{Kind}
 use Rattle.regions.specs.declared.Kind.TheVariants.{Memory, Taken}
-use Rattle.regions.specs.declared.Tag.{Tag}
 use Rattle.regions.specs.declared.Change.{Change}
 use Rattle.regions.specs.Lists.{legal_tag}
-use Rattle.regions.specs.Changes.{one_flag}
 use Rattle.regions.proofs.Flags.{one_flag_bounds}
 use Rattle.regions.proofs.Legal.{Keeps, fill_keeps, clear_keeps, mark_keeps, unmark_keeps}
 use Rattle.tables.specs.declared.commands.Verb.{Verb}
@@ -16,32 +13,6 @@ use Rattle.tables.specs.declared.commands.Verb.TheVariants.{Add, Remove, Mark, U
 use Rattle.range.specs.Outcomes.{tag}
 use Rattle.tables.specs.Commands.{table, change_of, legal_verb, strict}
 use Rattle.range.specs.Steps.{Known}
-
--- ---- by the command
-
-module _ (v : Verb) (t : Tag) (e : v ≡ Add t) where
-  pub add_fills : Change.Fill t ≡ change_of v
-  add_fills = rw e
-
-  pub add_legal : (b : Bool) → b ≡ legal_tag Memory t → b ≡ legal_verb v
-  add_legal b q = rw e q
-
-module _ (v : Verb) (w : ℕ) where
-  pub mark_marks : v ≡ Mark w → Change.Mark w ≡ change_of v
-  mark_marks e = rw e
-
-  pub unmark_unmarks : v ≡ Unmark w → Change.Unmark w ≡ change_of v
-  unmark_unmarks e = rw e
-
-  module _ (b : Bool) (q : b ≡ one_flag w) where
-    pub mark_legal : v ≡ Mark w → b ≡ legal_verb v
-    mark_legal e = rw e q
-
-    pub unmark_legal : v ≡ Unmark w → b ≡ legal_verb v
-    unmark_legal e = rw e q
-
-pub reserve_fills : (v : Verb) → v ≡ Reserve → (t : Tag) → t ≡ tag 0 0 → Change.Fill t ≡ change_of v
-reserve_fills v e t q = rw (e, q)
 
 -- ---- the rules of the table know it
 

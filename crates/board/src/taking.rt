@@ -42,7 +42,7 @@ pub struct Taking<'a> {
 impl<'a> Taking<'a> {
     // A command on each range of a node's reg.
     #[tactic(auto, unfolding(intake::specs::Turns::in_turn))]
-    fn take_reg(&self, block: &mut [u8], verb: Verb, node: &Node<'_>) -> Result<(), Refusal>
+    pub fn take_reg(&self, block: &mut [u8], verb: Verb, node: &Node<'_>) -> Result<(), Refusal>
         requires { (good current block.old ≡ true) × (legal_verb verb ≡ true) × OneOrTwo self.now.cells × AtNode self.now.trees node.now }
         ensures { outcome (answered result) block.new ≡ in_turn (steps current (reg_commands (gets self.now.trees) self.now.cells verb (node_at self.now.trees node.now))) block.old }
     {

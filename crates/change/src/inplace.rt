@@ -27,7 +27,10 @@ pub struct Met {
 fn below(a: Address) -> Address
     ensures { result.0 ≡ a.0 - 1 }
 {
-    Address(a.0.saturating_sub(1))
+    if a == Address(0) {
+        return a;
+    }
+    a.sub(Size(1))
 }
 
 // How many of the records begin at or below `a`; the first `from` do.

@@ -8,7 +8,7 @@ use block::LENGTH;
 use memblock::{memblock_fresh, memblock_intake_e820};
 use plan::{Line, answered, place_plan};
 use program::Program;
-use text::{TEXT, read_lines};
+use text::{LINES, TEXT, no_line, read_lines};
 
 // One byte more than a block has: a longer file is then seen to be none.
 const ROOM: usize = 15441;
@@ -30,7 +30,8 @@ fn judge_report(program: Program<'_>, report: &[u8], lines: &[Line]) {
     memblock_fresh(&mut block);
     let number = memblock_intake_e820(&mut block, report);
     if number != 0 {
-        program.say_about(BOARD, format_args!("the report is refused with {number}"));
+        program.say_about(BOARD);
+        let _ = eprintln!(program.rt; "the report is refused with {number}");
         return;
     }
     judge(program.rt, &mut block, lines);
@@ -48,19 +49,25 @@ fn judge_board(program: Program<'_>, board: &mut [u8], lines: &[Line]) {
 fn main(rt: HostRuntime) {
     let program = Program {
         rt: &rt,
-        name: "checkplan",
+        name: b"checkplan",
     };
-    if !program.names_files("PLAN BOARD", 2) {
+    if !program.names_files(b"PLAN BOARD", 2) {
         return;
     }
-    let Some(text) = program.read_named(PLAN, TEXT) else {
+    let mut text = [0u8; TEXT];
+    let Some(n) = program.read_named(PLAN, &mut text) else {
         return;
     };
-    let Some(mut board) = program.read_named(BOARD, ROOM) else {
+    let mut board = [0u8; ROOM];
+    let Some(m) = program.read_named(BOARD, &mut board) else {
         return;
     };
-    match read_lines(rt.alloc(), &text) {
-        Ok(lines) => judge_board(program, &mut board, &lines),
-        Err(fault) => program.say_about(PLAN, fault),
+    let mut lines = [no_line(); LINES];
+    match read_lines(&text[..n], &mut lines) {
+        Ok(lines) => judge_board(program, &mut board[..m], lines),
+        Err(fault) => {
+            program.say_about(PLAN);
+            let _ = eprintln!(&rt; "{fault}");
+        }
     }
 }

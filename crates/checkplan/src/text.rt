@@ -1,18 +1,17 @@
 // A plan as text: a line for each of its lines, seven decimal numbers with one space between, in the request's order, and a line end, which the last one may
 // lack. A number is one digit or more, leading zeros among them, and nothing else: no sign, no other space, no carriage return. It may have at most 20
 // digits and 64 bits, that of a node and of a wish 32 bits.
-ghost use Rattle.std.specs.Prelude.{◌≤◌, vec_len, IfOk};
+ghost use Rattle.std.specs.Prelude.{◌≤◌, length, IfOk};
 
 use address::{Address, Size};
 use fits::Query;
 use plan::Line;
-use std::alloc::{AllocError, AllocFailed, Global};
 use std::fmt;
 use std::fmt::Display;
 use std::str::{FromStr, Split};
 
 // The most lines that are read: one more than a plan may have.
-const LINES: usize = 65;
+pub const LINES: usize = 65;
 
 // Room for as many lines as are read: a right one has seven numbers of at most 20 digits, six spaces and a line end. Where a longer file is cut inside one of
 // them, what is left of that line is too long to be right.
@@ -39,31 +38,17 @@ impl Display for Wrong {
     }
 }
 
-// Why a text is not read as a plan: its first wrong line, counted from 1, or no memory for its lines.
+// Why a text is not read as a plan: its first wrong line, counted from 1.
 #[derive(Clone, Copy)]
-pub enum Fault {
-    Line(usize, Wrong),
-    NoMemory,
+pub struct Fault {
+    pub line: usize,
+    pub wrong: Wrong,
 }
 
 impl Display for Fault {
     fn fmt<W: fmt::Write>(&self, f: &mut fmt::Formatter<W>) -> fmt::Result {
-        match self {
-            Fault::Line(k, wrong) => write!(f, "line {k}: {wrong}"),
-            Fault::NoMemory => write!(f, "{AllocError}"),
-        }
-    }
-}
-
-impl From<AllocError> for Fault {
-    fn from(_error: AllocError) -> Fault {
-        Fault::NoMemory
-    }
-}
-
-impl<T: Drop> From<AllocFailed<T>> for Fault {
-    fn from(_error: AllocFailed<T>) -> Fault {
-        Fault::NoMemory
+        let Fault { line, wrong } = *self;
+        write!(f, "line {line}: {wrong}")
     }
 }
 
@@ -105,17 +90,39 @@ fn read_line(bytes: &[u8]) -> Result<Line, Wrong> {
     Ok(Line { query, at })
 }
 
-// Reads the lines of a text up to the first wrong one, at most 65.
-pub fn read_lines(alloc: Global, text: &[u8]) -> Result<Vec<Line>, Fault>
-    ensures { IfOk result (λ lines. vec_len lines ≤ 65) }
+// A line of zeros, where none is read yet.
+pub fn no_line() -> Line {
+    let query = Query {
+        size: Size(0),
+        align: Size(0),
+        start: Address(0),
+        end: Address(0),
+        node: 0,
+        wish: 0,
+    };
+    Line {
+        query,
+        at: Address(0),
+    }
+}
+
+// Reads the lines of a text up to the first wrong one, at most 65, into lent room: an index by hand, since there may be no memory on the heap.
+pub fn read_lines<'l>(text: &[u8], lines: &'l mut [Line; LINES]) -> Result<&'l [Line], Fault>
+    ensures { IfOk result (λ lines. length lines.now ≤ 65) }
 {
-    let mut lines = Vec::with_capacity(alloc, LINES)?;
+    let mut count = 0;
     for line in text.split_inclusive(|b| *b == b'\n').take(LINES) {
         let line = line.strip_suffix(b"\n").unwrap_or(line);
         match read_line(line) {
-            Ok(line) => lines.push(line)?,
-            Err(wrong) => return Err(Fault::Line(lines.len() + 1, wrong)),
+            Ok(line) => lines[count] = line,
+            Err(wrong) => {
+                return Err(Fault {
+                    line: count + 1,
+                    wrong,
+                });
+            }
         }
+        count += 1;
     }
-    Ok(lines)
+    Ok(&lines[..count])
 }

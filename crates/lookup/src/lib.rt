@@ -34,14 +34,16 @@ pub fn same_bytes(a: &[u8], b: &[u8]) -> bool
     a == b
 }
 
-// Whether bytes begin with `name` and its zero byte, or end behind it; no more of them are looked at than that has, and one.
-#[tactic(auto, using(crate::proofs::Bytes::name_begins))]
+// Whether bytes begin with `name` and its zero byte, or end behind it; no more of them are looked at than that has, and one, and none behind a zero or a byte
+// that differs.
 fn begins_name(bytes: &[u8], name: &[u8]) -> bool
     ensures { result ≡ same (to_zero bytes.now) name.now }
 {
-    bytes.starts_with(name)
-        && !name.contains(&0)
-        && (bytes.len() == name.len() || bytes[name.len()] == 0)
+    if bytes.len() < name.len() {
+        return false;
+    }
+    let begins = bytes.iter().zip(name).all(|(b, n)| *b != 0 && *b == *n);
+    begins && (bytes.len() == name.len() || bytes[name.len()] == 0)
 }
 
 // Whether the name at `at` of the strings block is `name`.

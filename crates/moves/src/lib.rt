@@ -72,6 +72,7 @@ fn shift(t: &mut [u8], count: usize, stop: usize, new: usize)
 
 // Puts `others` in the place of the records from `first` up to, not including, `stop`, in a table of `count` records with zeros behind.
 // The two places stay two numbers: `put` of the theorems has them so, and `shift` is given one of them.
+// Always inlined: as a call it takes more stack in every command than `memblock.h` tells.
 #[inline(always)]
 pub fn replace(t: &mut [u8], count: usize, first: usize, stop: usize, others: Records)
     requires { ((first ≤ stop) × (stop ≤ count)) × (((24 * count ≤ length t.old) × (24 * (count - stop + (first + others.count)) ≤ length t.old)) × ((24 * others.count ≤ length others.bytes.now) × ((length t.old ≡ 24 * (length t.old / 24)) × (all_zeros (drop (24 * count) t.old) ≡ true)))) }

@@ -140,18 +140,18 @@ module _ (tables : Tables) where
   -- ---- on past a piece
 
   module _ (s : Stand) (h : Stands tables s) (high : s.page < s.pages.last) (f : Found) (g : Around s.pages.first s.pages.last s.page f) where
-    ordered : order_at (whole runs) s.page ≡ some f.order
+    ordered : order_at (whole runs) s.page ≡ some f.scale.order
     ordered = h.same s.page (omega arith) high ∙ g.order
 
     pub past_above : s.page < f.past
-    past_above = omega (arith, g.past, g.start, down_near s.page (2 ^ f.order) (pow_pos f.order))
+    past_above = omega (arith, g.past, g.start, down_near s.page (2 ^ f.scale.order) (pow_pos f.scale.order))
 
     pub past_below : f.past ≤ s.pages.last
     past_below =
-        let d : ℕ = down s.page (2 ^ f.order) in
-        let m = (order_largest (within s.pages.first s.pages.last) s.page (some f.order) g.order).0 in
-        let q = both (leb s.pages.first d) (leb (d + 2 ^ f.order) s.pages.last) m in
-        omega (arith, g.past, g.start, leb-true (d + 2 ^ f.order) s.pages.last q.1)
+        let d : ℕ = down s.page (2 ^ f.scale.order) in
+        let m = (order_largest (within s.pages.first s.pages.last) s.page (some f.scale.order) g.order).0 in
+        let q = both (leb s.pages.first d) (leb (d + 2 ^ f.scale.order) s.pages.last) m in
+        omega (arith, g.past, g.start, leb-true (d + 2 ^ f.scale.order) s.pages.last q.1)
 
     pub stand_past : Stands tables (record { pages = s.pages; page = f.past; at = s.at })
     stand_past =
@@ -174,14 +174,14 @@ module _ (tables : Tables) where
         let j = past_below in
         let e : page_top - s.page ≡ (f.past - s.page) + (page_top - f.past) = omega (arith, h.top) in
         let k : s.page + (f.past - s.page) ≡ f.past = omega arith in
-        rw (e, pieces_inside (whole runs) s.page f.order (f.past - s.page) (page_top - f.past) ordered (omega (arith, g.start)) (omega (arith, g.past, g.start)), k)
+        rw (e, pieces_inside (whole runs) s.page f.scale.order (f.past - s.page) (page_top - f.past) ordered (omega (arith, g.start)) (omega (arith, g.past, g.start)), k)
 
     -- or a piece begins there
-    pub step_piece : s.page ≤ f.start → pieces_from runs s.page ≡ piece s.page f.order ∷ pieces_from runs f.past
+    pub step_piece : s.page ≤ f.start → pieces_from runs s.page ≡ piece s.page f.scale.order ∷ pieces_from runs f.past
     unfolding pieces_from
     step_piece l =
-        let d : down s.page (2 ^ f.order) ≡ s.page = omega (arith, g.start, down_le s.page (2 ^ f.order) (pow_pos f.order)) in
-        let k : s.page + 2 ^ f.order ≡ f.past = omega (arith, g.past, g.start) in
+        let d : down s.page (2 ^ f.scale.order) ≡ s.page = omega (arith, g.start, down_le s.page (2 ^ f.scale.order) (pow_pos f.scale.order)) in
+        let k : s.page + 2 ^ f.scale.order ≡ f.past = omega (arith, g.past, g.start) in
         let j = past_below in
-        let e : page_top - s.page ≡ 2 ^ f.order + (page_top - f.past) = omega (arith, h.top) in
-        rw (e, pieces_one (whole runs) s.page f.order (page_top - f.past) ordered (down_odd s.page (2 ^ f.order) d), k)
+        let e : page_top - s.page ≡ 2 ^ f.scale.order + (page_top - f.past) = omega (arith, h.top) in
+        rw (e, pieces_one (whole runs) s.page f.scale.order (page_top - f.past) ordered (down_odd s.page (2 ^ f.scale.order) d), k)

@@ -14,7 +14,7 @@ use Rattle.std.specs.Prelude.{Option, Some, None}
 use Rattle.runs.specs.declared.Tables.{Tables}
 use Rattle.pages.specs.Pages.{piece, pieces, pieces_from, page_top, page_top_is, piece_bytes, pieces_bytes, next_page, written}
 use Rattle.sweep.specs.Steps.{runs_in, Ahead}
-use Rattle.pages.specs.Steps.{Around, HandedOver, Entered}
+use Rattle.pages.specs.Steps.{Sized, Around, HandedOver, Entered}
 use Rattle.pages.proofs.Places.{Stands, stand_first, Enters, enter_done, enter_at, past_above, past_below, stand_past, step_inside, step_piece}
 use Rattle.pages.proofs.Writing.{take_more, drop_more, length_more, written_length, written_more}
 
@@ -30,6 +30,10 @@ pub record Walked (tables : Tables) (p : ℕ) (lent : List ℕ) (count : ℕ) (s
 -- what falls from turn to turn
 abbrev pub ahead : Stand → ℕ
 ahead s = (18446744073709551616 - s.at.low.0) + (18446744073709551616 - s.page)
+
+-- the order from which the first one is looked for
+pub scale_first : Sized (record { order = 10; size = 1024 })
+scale_first = record { few = omega arith; size = refl }
 
 -- no page is left from 2^52 on
 pub walk_far : (tables : Tables) (p : ℕ) (lent : List ℕ) → 4503599627370496 ≤ p → HandedOver (pieces_from (runs_in tables) p) lent 0 4503599627370496 lent
@@ -111,7 +115,7 @@ module _ {tables : Tables} {p : ℕ} {lent : List ℕ} {count : ℕ} {s : Stand}
           stands = stand_past tables s w.stands high f g;
         }
 
-    left : s.page ≤ f.start → drop count (pieces_from (runs_in tables) p) ≡ piece s.page f.order ∷ pieces_from (runs_in tables) f.past
+    left : s.page ≤ f.start → drop count (pieces_from (runs_in tables) p) ≡ piece s.page f.scale.order ∷ pieces_from (runs_in tables) f.past
     left l = w.rest ∙ step_piece tables s w.stands high f g l
 
     -- a piece, and no room
@@ -123,11 +127,11 @@ module _ {tables : Tables} {p : ℕ} {lent : List ℕ} {count : ℕ} {s : Stand}
         record { many = rw (← k) (omega (arith, length-take count ps, w.some)); rest = rw (← k, z); bytes = rw (← k) w.bytes }
 
     -- a piece, and room
-    pub walk_put : s.page ≤ f.start → (count ≡ length lent / 12 → ⊥) → {after : List ℕ} → after ≡ sets buffer (12 * count) (piece_bytes (piece s.page f.order))
+    pub walk_put : s.page ≤ f.start → (count ≡ length lent / 12 → ⊥) → {after : List ℕ} → after ≡ sets buffer (12 * count) (piece_bytes (piece s.page f.scale.order))
         → Walked tables p lent (count + 1) next after
     walk_put l k {after} h =
         let ps : List Piece = pieces_from (runs_in tables) p in
-        let x : Piece = piece s.page f.order in
+        let x : Piece = piece s.page f.scale.order in
         let xs : List Piece = pieces_from (runs_in tables) f.past in
         let z = left l in
         let o : length (take count ps) ≡ count = omega (arith, length-take count ps, w.some) in

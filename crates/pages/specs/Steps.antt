@@ -6,6 +6,7 @@ use Rattle.runs.specs.declared.Tables.{Tables}
 use Rattle.sweep.specs.declared.Swept.{Swept}
 use Rattle.pages.specs.declared.Piece.{Piece}
 use Rattle.pages.specs.declared.Found.{Found}
+use Rattle.pages.specs.declared.Scale.{Scale}
 use Rattle.pages.specs.declared.Span.{Span}
 use Rattle.pages.specs.declared.Stand.{Stand}
 use Rattle.sweep.specs.Steps.{Advanced}
@@ -15,16 +16,21 @@ use Rattle.pages.specs.Pages.{PageTest, order_at, room, next_page, written}
 abbrev pub within : ℕ → ℕ → PageTest
 within f l o p = leb f p && leb (p + 2 ^ o) l
 
+-- an order from 0 to 10, with its size
+pub record Sized (s : Scale) : Type 0 where
+  pub few : s.order ≤ 10
+  pub size : s.size ≡ 2 ^ s.order
+
 -- no piece around page p of an order above o lies between f and l
 abbrev pub NoneAbove : ℕ → ℕ → ℕ → ℕ → Type 0
 NoneAbove f l p o = (k : ℕ) → o < k → k < 11 → within f l k (down p (2 ^ k)) ≡ false
 
 -- the piece that page p lies in, among the pages from f up to l
 pub record Around (f l p : ℕ) (r : Found) : Type 0 where
-  pub few : r.order ≤ 10
-  pub order : order_at (within f l) p ≡ some r.order
-  pub start : r.start ≡ down p (2 ^ r.order)
-  pub past : r.past ≡ r.start + 2 ^ r.order
+  pub sized : Sized r.scale
+  pub order : order_at (within f l) p ≡ some r.scale.order
+  pub start : r.start ≡ down p (2 ^ r.scale.order)
+  pub past : r.past ≡ r.start + 2 ^ r.scale.order
 
 -- a run's whole pages
 abbrev pub span_of : Swept → Span

@@ -1,16 +1,16 @@
 // The free pages of a block, cut into pieces and handed over.
 #![tactic(auto)]
 
-ghost use Rattle.std.specs.Prelude.{◌≡◌, ◌+◌, ◌/◌, ◌^◌, ◌<◌, ◌≤◌, length};
+ghost use Rattle.std.specs.Prelude.{◌≡◌, true, ◌+◌, ◌/◌, ◌<◌, ◌≤◌, ◌&&◌, leb, length};
 ghost use Rattle.std.proofs.lemmas.List.Edits.{sets};
-ghost use Rattle.address.specs.Numbers.{down};
+ghost use Rattle.address.specs.Numbers.{down, power_of_two};
 ghost use Rattle.refusals.specs.Numbers.{answered};
 ghost use Rattle.block.specs.Block.{current};
 ghost use Rattle.search.specs.Answers.{answer, with_buffer};
 ghost use Rattle.pages.specs.Pages.{piece_bytes, pieces_from, hand_over};
 ghost use Rattle.runs.specs.Steps.{GoodTables};
 ghost use Rattle.sweep.specs.Steps.{runs_in, Ahead};
-ghost use Rattle.pages.specs.Steps.{within, NoneAbove, Around, Entered, HandedOver};
+ghost use Rattle.pages.specs.Steps.{Sized, NoneAbove, Around, Entered, HandedOver};
 
 use address::{Address, round_down};
 use block::{block_good, current_layout};
@@ -54,20 +54,25 @@ struct Stand {
     at: Sweep,
 }
 
+// An order, and how many pages a piece of it has. Both are kept: worked out of the order at each test, the size makes a handover take up to 1.6 times as long.
+#[derive(Clone, Copy)]
+struct Scale {
+    order: u32,
+    size: u64,
+}
+
+// The largest order.
+const LARGEST: Scale = Scale {
+    order: 10,
+    size: 1024,
+};
+
 // The piece that a page lies in: its first page, the first past it, and its order.
 #[derive(Clone, Copy)]
 struct Found {
     start: u64,
     past: u64,
-    order: u32,
-}
-
-// How many pages a piece of this order has.
-fn pages_of(order: u32) -> u64
-    requires { order ≤ 10 }
-    ensures { result ≡ 2 ^ order }
-{
-    1 << order
+    scale: Scale,
 }
 
 impl Span {
@@ -81,45 +86,48 @@ impl Span {
         }
     }
 
-    // Whether the piece of this order that `page` lies in lies among them.
-    fn holds(self, page: u64, order: u32) -> bool
-        requires { (page < self.last) × (order ≤ 10) }
-        ensures { result ≡ within self.first self.last order (down page (2 ^ order)) }
+    // Whether the piece of `size` pages that `page` lies in lies among them.
+    fn holds(self, page: u64, size: u64) -> bool
+        requires { (page < self.last) × (power_of_two size ≡ true) }
+        ensures { result ≡ leb self.first (down page size) && leb (down page size + size) self.last }
     {
-        let size = pages_of(order);
         let start = round_down(page, size);
         self.first <= start && size <= self.last - start
     }
 
     // From the order `near` up, as long as the next larger piece fits.
     // A `while`, here and below: what is asked for is where it stops.
-    fn raise(self, page: u64, near: u32) -> u32
-        requires { (page < self.last) × (near ≤ 10) }
-        ensures { (result ≤ 10) × NoneAbove self.first self.last page result }
+    fn raise(self, page: u64, near: Scale) -> Scale
+        requires { (page < self.last) × Sized near }
+        ensures { Sized result × NoneAbove self.first self.last page result.order }
     {
-        let mut order = near;
-        while order < 10 && self.holds(page, order + 1) {
+        let mut order = near.order;
+        let mut size = near.size;
+        while order < 10 && self.holds(page, 2 * size) {
             order += 1;
+            size *= 2;
         }
-        order
+        Scale { order, size }
     }
 
     // The piece that `page`, one of them, lies in. Where a larger piece fits, so do all smaller ones, so that the order is looked for from `near` up, and
     // from there down.
-    fn piece_at(self, page: u64, near: u32) -> Found
-        requires { ((self.first ≤ page) × (page < self.last)) × (near ≤ 10) }
+    fn piece_at(self, page: u64, near: Scale) -> Found
+        requires { ((self.first ≤ page) × (page < self.last)) × Sized near }
         ensures { Around self.first self.last page result }
     {
-        let mut order = self.raise(page, near);
-        while 0 < order && !self.holds(page, order) {
+        let high = self.raise(page, near);
+        let mut order = high.order;
+        let mut size = high.size;
+        while 0 < order && !self.holds(page, size) {
             order -= 1;
+            size /= 2;
         }
-        let size = pages_of(order);
         let start = round_down(page, size);
         Found {
             start,
             past: start + size,
-            order,
+            scale: Scale { order, size },
         }
     }
 }
@@ -167,7 +175,7 @@ fn walk(t: Tables<'_>, page: u64, buffer: &mut [u8]) -> Told
         page,
         at: from,
     };
-    let mut order: u32 = 10;
+    let mut scale = LARGEST;
     loop {
         let page = at.page;
         let pages = at.pages;
@@ -181,8 +189,8 @@ fn walk(t: Tables<'_>, page: u64, buffer: &mut [u8]) -> Told
             at = s;
             continue;
         }
-        let f = pages.piece_at(page, order);
-        order = f.order;
+        let f = pages.piece_at(page, scale);
+        scale = f.scale;
         at.page = f.past;
         if f.start < page {
             continue;
@@ -193,6 +201,7 @@ fn walk(t: Tables<'_>, page: u64, buffer: &mut [u8]) -> Told
                 next: page,
             };
         }
+        let order = scale.order;
         put_piece(buffer, 12 * count, Piece { page, order });
         count += 1;
     }

@@ -99,7 +99,7 @@ pub fn lookup<'a>(service: &'a [u8], board: &'a [u8], path: &[u8], name: &[u8]) 
     ensures { result.now ≡ part_of service.now board.now (pair_place service.now board.now path.now name.now) }
 {
     let Ok(Some(place)) = find_pair(service, board, path, name) else {
-        return &[];
+        return &board[..0];
     };
     let tree = tree_by(place.holder, service, board);
     &tree[place.offset..place.offset + place.length]

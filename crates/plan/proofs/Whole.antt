@@ -20,7 +20,7 @@ use Rattle.fits.specs.Eligible.{lowest, Gives}
 use Rattle.fits.proofs.Extremes.{lowest_gives}
 use Rattle.refusals.specs.Numbers.{number}
 use Rattle.range.specs.Outcomes.{outcome}
-use Rattle.plan.specs.Answers.{answer, with_index}
+use Rattle.plan.specs.Answers.{Answer, answer, with_index}
 use Rattle.plan.specs.declared.Fault.{Fault}
 use Rattle.plan.specs.declared.Line.{Line}
 use Rattle.refusals.specs.declared.Refusal.{Refusal}
@@ -196,3 +196,40 @@ module _ (b : List ℕ) (ls : List Line) (n : ℕ) (m : n ≡ length ls) where
       told_reserved n d xs q w =
           let o = lowest_none (faulty (contents current b) ls) (length ls) sound.clean in
           ap at_zero (rw (w, sound.ranges) at q) ∙ sym (plan_is ∙ rw o)
+
+-- ---- the whole
+
+-- the lines judged behind the block's check: their ranges, or the first fault
+abbrev pub walked : List ℕ → List Line → Result (List Run) Fault
+walked b ls = elim (begun b (length ls)) [ Ok u ↦ judged_all (contents current b) [] ls | Err e ↦ Err (record { refusal = e; index = 0 }) ]
+
+-- what comes of that
+abbrev pub ended : List ℕ → Result (List Run) Fault → Answer
+ended b (Ok rs) = at_zero (reserving current rs b)
+ended b (Err f) = with_index f.index (answer (number f.refusal) b [])
+
+pub ended_all : (b : List ℕ) (ls : List Line) → ended b (walked b ls) ≡ plan current ls b
+ended_all b ls = go (begun b (length ls)) refl
+  where
+    after : Ok tt ≡ begun b (length ls) → (x : Result (List Run) Fault) → x ≡ judged_all (contents current b) [] ls → ended b x ≡ plan current ls b
+    after h (Err f) e = told_fault b ls (length ls) refl h f e
+    after h (Ok rs) e = let o = reserving current rs b in told_reserved b ls (length ls) refl h rs e o.number o.block rs refl refl
+
+    go : (x : Result Unit Refusal) → x ≡ begun b (length ls)
+        → ended b (elim x [ Ok u ↦ judged_all (contents current b) [] ls | Err e ↦ Err (record { refusal = e; index = 0 }) ]) ≡ plan current ls b
+    go (Err e) h = told_begun b ls (length ls) refl e h
+    go (Ok u) h = after h (judged_all (contents current b) [] ls) refl
+
+-- lines that were judged with no fault stand on a good block, are 64 at most, and their ranges can be filled in turn
+pub record Placeable (b : List ℕ) (ls : List Line) (rs : List Run) : Type 0 where
+  pub good : good current b ≡ true
+  pub few : length ls ≤ 64
+  pub apart : AllApart (contents current b).taken rs
+
+pub placeable_all : (b : List ℕ) (ls : List Line) (rs : List Run) → Ok rs ≡ walked b ls → Placeable b ls rs
+placeable_all b ls rs e = go (begun b (length ls)) refl e
+  where
+    go : (x : Result Unit Refusal) → x ≡ begun b (length ls)
+        → ◌≡◌ {A = Result (List Run) Fault} (Ok rs) (elim x [ Ok u ↦ judged_all (contents current b) [] ls | Err f ↦ Err (record { refusal = f; index = 0 }) ]) → Placeable b ls rs
+    go (Err f) h q = absurd cc
+    go (Ok u) h q = record { good = begun_good b ls (length ls) refl h; few = begun_few b ls (length ls) refl h; apart = told_apart b ls (length ls) refl h rs q }

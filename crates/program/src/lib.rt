@@ -1,7 +1,8 @@
 // What the programs on files share: the files that the command line names, and what came of taking one in, printed. A write that fails is not told of.
 #![tactic(auto)]
 
-ghost use Rattle.std.specs.Prelude.{◌≡◌, true, ◌≤◌, vec_len, IfOk, IfSome};
+ghost use Rattle.std.specs.Prelude.{◌≡◌, true, ◌≤◌, length, IfSome};
+ghost use Rattle.std.specs.Io.{ReadsAtMost};
 ghost use Rattle.block.specs.Block.{current, good};
 
 use block::get_header;
@@ -10,6 +11,7 @@ use regions::bytes::get_region;
 use regions::{Kind, Region};
 use std::env::FillError;
 use std::fmt::Display;
+use std::fs::File;
 use std::io::{Error, ErrorKind, Read};
 use std::rt::Env;
 use std::{fmt, fs, io};
@@ -17,11 +19,11 @@ use std::{fmt, fs, io};
 // Room for a file's name, as long as the system takes one.
 const PATH: usize = 4096;
 
-// A program, and the name by which it speaks of itself.
+// A program, and the name by which it speaks of itself, which need not be text.
 #[derive(Clone, Copy)]
 pub struct Program<'a> {
     pub rt: &'a HostRuntime,
-    pub name: &'a str,
+    pub name: &'a [u8],
 }
 
 // A record as its line has it: base, size, flags, node, in decimal, one space between.
@@ -64,47 +66,59 @@ fn why_no_argument(error: FillError) -> Error {
     }
 }
 
+// Reads until the room is full or the file ends, and answers how many bytes of it are read.
+// By hand, into lent room: the library's `read_to_end` takes the heap, which may have no memory left, and reads by parts.
+fn read_full(file: &mut File, room: &mut [u8]) -> io::Result<usize>
+    ensures { ReadsAtMost result room.new }
+{
+    let mut done = 0;
+    while done < room.len() {
+        let n = file.read(&mut room[done..])?;
+        if n == 0 {
+            return Ok(done);
+        }
+        done += n;
+    }
+    Ok(done)
+}
+
 impl Program<'_> {
-    // A line on standard error about a file, whose name need not be text.
-    fn say_of(self, path: &[u8], words: impl Display + Drop) {
-        let _ = eprint!(self.rt; "{}: ", self.name);
+    // Begins a line on standard error about a file, whose name need not be text.
+    fn say_path(self, path: &[u8]) {
+        let _ = self.rt.stderr().write_all(self.name);
+        let _ = eprint!(self.rt; ": ");
         let _ = self.rt.stderr().write_all(path);
-        let _ = eprintln!(self.rt; ": {words}");
+        let _ = eprint!(self.rt; ": ");
     }
 
     // Why a call on a file failed: the system's words, without the number that std puts behind them.
     fn say_failure(self, path: &[u8], error: Error) {
+        self.say_path(path);
         match error.to_string(self.rt.alloc()) {
             Ok(words) => {
                 let words = words.as_str();
                 let reason = words
                     .rsplit_once(" (os error ")
                     .map_or(words, |(reason, _)| reason);
-                self.say_of(path, reason);
+                let _ = eprintln!(self.rt; "{reason}");
             }
-            Err(_) => self.say_of(path, error),
+            Err(_) => {
+                let _ = eprintln!(self.rt; "{error}");
+            }
         }
     }
 
-    // Argument k, which need not be text.
-    fn argument(self, k: usize) -> io::Result<Vec<u8>> {
-        let mut path = vec![in self.rt.alloc(); 0; PATH]?;
-        let n = self.rt.arg(k, &mut path).map_err(why_no_argument)?;
-        path.truncate(n);
-        Ok(path)
+    // Begins a line on standard error about the file that argument k names.
+    pub fn say_about(self, k: usize) {
+        let mut path = [0u8; PATH];
+        let n = self.rt.arg(k, &mut path).unwrap_or(0);
+        self.say_path(&path[..n]);
     }
 
-    // A line on standard error about the file that argument k names.
-    pub fn say_about(self, k: usize, words: impl Display + Drop) {
-        match self.argument(k) {
-            Ok(path) => self.say_of(&path, words),
-            Err(_) => self.say_of(b"", words),
-        }
-    }
-
-    // Reads a file, at most so many bytes of it. std takes names that are UTF-8 alone. One more read tells whether a file that is longer can be read on.
-    fn read_file(self, path: &[u8], most: usize) -> io::Result<Vec<u8>>
-        ensures { IfOk result (λ bytes. vec_len bytes ≤ most) }
+    // Reads a file, as much of it as there is room for, and answers how many bytes. std takes names that are UTF-8 alone. One more read tells whether a file
+    // that fills the room can be read on.
+    fn read_file(self, path: &[u8], room: &mut [u8]) -> io::Result<usize>
+        ensures { ReadsAtMost result room.new }
     {
         let Ok(name) = str::from_utf8(path) else {
             return Err(Error::new(
@@ -112,30 +126,28 @@ impl Program<'_> {
                 "Invalid or incomplete multibyte or wide character",
             ));
         };
-        let mut front = fs::open(self.rt, name)?.take(most as u64);
-        let mut bytes = Vec::new(self.rt.alloc());
-        front.read_to_end(&mut bytes)?;
-        front.into_inner().read(&mut [0u8; 1])?;
-        // `take` gives no more, but `read_to_end` promises nothing of that.
-        bytes.truncate(most);
-        Ok(bytes)
+        let mut file = fs::open(self.rt, name)?;
+        let n = read_full(&mut file, room)?;
+        file.read(&mut [0u8; 1])?;
+        Ok(n)
     }
 
-    // Reads the file that argument k names, at most so many bytes of it; says on standard error what went wrong.
-    pub fn read_named(self, k: usize, most: usize) -> Option<Vec<u8>>
-        ensures { IfSome result (λ bytes. vec_len bytes ≤ most) }
+    // Reads the file that argument k names, as much of it as there is room for, and answers how many bytes; says on standard error what went wrong.
+    pub fn read_named(self, k: usize, room: &mut [u8]) -> Option<usize>
+        ensures { IfSome result (λ n. n ≤ length room.new) }
     {
-        let path = match self.argument(k) {
-            Ok(path) => path,
+        let mut path = [0u8; PATH];
+        let n = match self.rt.arg(k, &mut path).map_err(why_no_argument) {
+            Ok(n) => n,
             Err(error) => {
                 self.say_failure(b"the file's name", error);
                 return None;
             }
         };
-        match self.read_file(&path, most) {
-            Ok(bytes) => Some(bytes),
+        match self.read_file(&path[..n], room) {
+            Ok(count) => Some(count),
             Err(error) => {
-                self.say_failure(&path, error);
+                self.say_failure(&path[..n], error);
                 None
             }
         }
@@ -147,21 +159,25 @@ impl Program<'_> {
     }
 
     // Whether there are as many arguments as files are to be named; says on standard error how to use the program if not.
-    pub fn names_files(self, files: &str, count: usize) -> bool {
+    pub fn names_files(self, files: &[u8], count: usize) -> bool {
         if self.has_argument(count) && !self.has_argument(count.saturating_add(1)) {
             return true;
         }
-        let _ = eprintln!(self.rt; "usage: {} {files}", self.name);
+        let _ = eprint!(self.rt; "usage: ");
+        let _ = self.rt.stderr().write_all(self.name);
+        let _ = eprint!(self.rt; " ");
+        let _ = self.rt.stderr().write_all(files);
+        let _ = eprintln!(self.rt; "");
         false
     }
 
-    // Reads the file that the one argument names; says on standard error what went wrong.
-    pub fn read_argument(self, most: usize) -> Option<Vec<u8>>
-        ensures { IfSome result (λ bytes. vec_len bytes ≤ most) }
+    // Reads the file that the one argument names, likewise.
+    pub fn read_argument(self, room: &mut [u8]) -> Option<usize>
+        ensures { IfSome result (λ n. n ≤ length room.new) }
     {
-        if !self.names_files("FILE", 1) {
+        if !self.names_files(b"FILE", 1) {
             return None;
         }
-        self.read_named(1, most)
+        self.read_named(1, room)
     }
 }

@@ -6,11 +6,16 @@ use mathlib.Core.List.{List, ◌++◌, append_assoc, append-nil}
 use native.Mathlib.Omega.{arith}
 use lib.ListN.{length, take, drop, length-append, length-drop, drop_of_length-le}
 use lib.Seq.{sets, take_at, drop_at, drop-drop, length-take-le, take-add}
+use Rattle.std.specs.Prelude.{Option, Some, None}
+use Rattle.address.specs.declared.Address.{Address}
 use Rattle.address.specs.declared.Size.{Size}
+use Rattle.address.specs.Numbers.{address}
+use Rattle.address.proofs.Checked.{address_outside, address_at}
 use Rattle.regions.specs.declared.Kind.{Kind}
 use Rattle.regions.specs.declared.Kind.TheVariants.{Memory, Taken}
 use Rattle.regions.specs.declared.Region.{Region}
-use Rattle.regions.specs.Meaning.{at, total, top}
+use Rattle.regions.specs.Meaning.{at, total, top, top_is}
+use Rattle.regions.specs.Changes.{cut}
 use Rattle.regions.specs.Bytes.{table_bytes}
 use Rattle.regions.proofs.Numbers.{Bytes}
 use Rattle.block.specs.declared.Layout.{Layout}
@@ -145,3 +150,13 @@ module _ (b : List ℕ) (bs : Bytes b) (g : good current b ≡ true) (k : Kind) 
       let f : record { count = n; total = t } ≡ tally xs = λ i. record { count = en i; total = record { 0 = et i } } in
       let r : length xs ≤ capacity current k = omega arith in
       list_stored current small_current b bs g k xs r own eo (record { count = n; total = t }) f _ z put_back (ez ∙ rw (el, eh))
+
+-- ---- the end of a range
+
+pub cut_past : (a : Address) (s : Size) (x : Option Address) → x ≡ address (a.0 + s.0) → x ≡ None → 18446744073709551615 ≡ cut a.0 s.0
+cut_past a s x q e = omega (arith, address_outside (a.0 + s.0) x q e, top_is)
+
+pub cut_at : (a : Address) (s : Size) (x : Option Address) (e : Address) → x ≡ address (a.0 + s.0) → x ≡ Some e → e.0 ≡ cut a.0 s.0
+cut_at a s x e q f =
+    let m = address_at (a.0 + s.0) x e q f in
+    omega (arith, top_is)

@@ -45,7 +45,10 @@ pub fn table_span(kind: Kind) -> Span
 pub fn cut_end(base: Address, size: Size) -> Address
     ensures { result.0 ≡ cut base.0 size.0 }
 {
-    Address(base.0.saturating_add(size.0))
+    let Some(end) = base.plus(size) else {
+        return Address(0xFFFF_FFFF_FFFF_FFFF);
+    };
+    end
 }
 
 // Writes a changed table's tally into the header, or answers why the table is not changed.

@@ -214,9 +214,12 @@ pub fn put_zeros(t: &mut [u8], at: usize)
 }
 
 // Copies the first `m` bytes.
+// Byte by byte: by the library's copy the archive needs `memmove` from boot code, which nothing else in it does.
 pub fn copy_front(dst: &mut [u8], src: &[u8], m: usize)
     requires { (m ≤ length dst.old) × (m ≤ length src.now) }
     ensures { dst.new ≡ take m src.now ++ drop m dst.old }
 {
-    dst[..m].copy_from_slice(&src[..m]);
+    for i in 0..m {
+        dst[i] = src[i];
+    }
 }

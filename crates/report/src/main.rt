@@ -20,9 +20,10 @@ fn take_in(rt: &impl Print, report: &[u8]) {
 fn main(rt: HostRuntime) {
     let program = Program {
         rt: &rt,
-        name: "report",
+        name: b"report",
     };
-    if let Some(report) = program.read_argument(ROOM) {
-        take_in(&rt, &report);
+    let mut report = [0u8; ROOM];
+    if let Some(n) = program.read_argument(&mut report) {
+        take_in(&rt, &report[..n]);
     }
 }

@@ -67,6 +67,7 @@ fn first_in(block: &[u8], q: Query, way: Way) -> Option<Spot>
 
 // The lowest eligible address at or above the image end or, where there is none, the highest of the window, with its run. Where the window
 // begins at or above the image end, the way up has seen all of it.
+// Never inlined: so a find needs no more stack than `memblock.h` tells.
 #[inline(never)]
 fn bottom_up_in(block: &[u8], w: Query, image: Address) -> Option<Spot>
     requires { Ready block.now w }

@@ -5,8 +5,12 @@ use block::LENGTH;
 use memblock::{memblock_fresh, memblock_intake_tree};
 use program::{Program, say_answer};
 
-// The longest file that is taken in.
-const LONGEST: usize = 1048576;
+// One byte more than the longest file that is taken in.
+const ROOM: usize = 1048577;
+
+fn room() -> [u8; ROOM] {
+    [0u8; ROOM]
+}
 
 // Takes a tree in and prints what came of it, as `report` does with a report: one function for both would take the intake as a closure, with a law of it that
 // the block is left good, and be longer than these lines.
@@ -20,14 +24,15 @@ fn take_in(rt: &impl Print, tree: &[u8]) {
 fn main(rt: HostRuntime) {
     let program = Program {
         rt: &rt,
-        name: "treereport",
+        name: b"treereport",
     };
-    let Some(tree) = program.read_argument(LONGEST + 1) else {
+    let mut tree = room();
+    let Some(n) = program.read_argument(&mut tree) else {
         return;
     };
-    if LONGEST < tree.len() {
-        let _ = eprintln!(&rt; "{}: the file is longer than {LONGEST} bytes", program.name);
+    if n == ROOM {
+        let _ = eprintln!(&rt; "treereport: the file is longer than 1048576 bytes");
         return;
     }
-    take_in(&rt, &tree);
+    take_in(&rt, &tree[..n]);
 }

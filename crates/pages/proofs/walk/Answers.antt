@@ -1,5 +1,5 @@
 -- `pages::walk` meets its contract. The invariant: count pieces are written, and what is left is the list from the walk's page on.
-use Rattle.pages.proofs.Walking.{walk_far, walk_start, walk_done, walk_enter, walk_inside, walk_full, walk_put}
+use Rattle.pages.proofs.Walking.{scale_first, walk_far, walk_start, walk_done, walk_enter, walk_inside, walk_full, walk_put}
 use borrow.Author.Rules.{rules}
 use Rattle.pages.proofs.walk.Goals as goal
 
@@ -7,7 +7,7 @@ pub returns-then-page-ge-PAGES : goal.returns-then-page-ge-PAGES
 returns-then-page-ge-PAGES c = search (walk_far, rules)
 
 pub loop-pages-init : goal.loop-pages-init
-loop-pages-init c = (search (walk_start, rules), search rules)
+loop-pages-init c = (search (walk_start, rules), scale_first)
 
 pub returns-in_default : goal.returns-in_default
 returns-in_default c = search (walk_done, rules)

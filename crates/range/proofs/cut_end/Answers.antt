@@ -1,7 +1,10 @@
 -- `range::cut_end` meets its contract.
-use native.Mathlib.Omega.{arith}
-use Rattle.regions.specs.Meaning.{top_is}
+use Rattle.range.proofs.Storing.{cut_past, cut_at}
+use borrow.Author.Rules.{rules}
 use Rattle.range.proofs.cut_end.Goals as goal
 
+pub returns-in_default : goal.returns-in_default
+returns-in_default c = search (cut_past, rules)
+
 pub returns : goal.returns
-returns c = omega (arith, c.saturating_add.ensures, top_is)
+returns c = search (cut_at, rules)

@@ -4,6 +4,9 @@ use borrow.Author.Rules.{rules}
 use Rattle.pages.proofs.Span.piece_at.Goals as goal
 use Rattle.pages.proofs.Span.piece_at.Goals.{then-loop-order-test+else-not-holds, else-loop-order-test}
 
+pub holds-requires : goal.holds-requires
+holds-requires c = (search rules, search (size_power, rules))
+
 pub round_down-start-requires : goal.round_down-start-requires
 round_down-start-requires c = search (size_power, rules)
 
